@@ -99,7 +99,8 @@ impl TdmaTime {
         ensures { λ r. ⌜ r ≡ aheadOf self ts ⌝ }
         ensures { λ r. ⌜ r < 4 ⌝ }
     {
-        (ts + 4 - self.t) % 4
+        let t = self.t;
+        (ts + 4 - t) % 4
     }
 
     /// The slots of this time.

@@ -10,13 +10,13 @@ add-result : tie.Need-add-result
 add-result c = omega (arith, in-range (c .args .self) (c .pre .0))
 
 sub-result : tie.Need-sub-result
-sub-result c = omega (arith, in-range (c .before .args .self) (c .before .pre .0))
+sub-result c = omega (arith, in-range (c .args .self) (c .pre .0))
 
 returns : tie.Need-returns
 unfolding aheadOf
 returns c =
-    let self = c .before .args .self in
-    (sym (modulo-frame (c .before .args .ts) (self .t) (in-range self (c .before .pre .0) .t-high)), omega arith)
+    let self = c .args .self in
+    (sym (modulo-frame (c .args .ts) (self .t) (in-range self (c .pre .0) .t-high)), omega arith)
 
 pub ahead-spec : {M : Type 1} → statement M
 ahead-spec = tie.close (tie.spec add-result sub-result returns)
