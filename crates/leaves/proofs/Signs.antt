@@ -8,7 +8,7 @@ use lib.IntN.{ℤ, pos, negsuc, _-ℤ_}
 use lib.Signed.{ltZ}
 use mir.Syntax.{w32}
 use mir.Val.{SFits}
-use Rattle.tdma_time.proofs.Integers.{Natural}
+use Rattle.signed.proofs.Integers.{Natural}
 
 pub negated : (n : ℤ) → SFits w32 n → ltZ n (pos 0) ≡ true → Natural (pos 0 -ℤ n) (2 ^ 32)
 negated (pos a) f h = let l : a < 0 = ltb-true a 0 h in absurd (omega arith)

@@ -1,10 +1,19 @@
--- What the code learns at `if !test(..) { return ..; }`, where r is what the test answered and v what it stands for.
-use mathlib.Core.Path.{_≡_, _∙_, sym}
+-- What the code learns at `if !test(..) { return ..; }`, where r is what the test answered and v what it stands for, and
+-- what an accepted outcome says of the question that it passed.
+use Prim.Native.Nat.{ℕ}
+use mathlib.Core.Path.{_≡_, _∙_, refl, sym}
 use mathlib.Core.Bool.{Bool, true, false, not}
 use borrow.Author.Tests.{not-true, not-false}
+use native.Mathlib.Omega.{arith}
+use Rattle.questions.specs.Outcome.{Outcome, accepted, refused, ask}
 
 pub passed : {r v : Bool} → r ≡ v → not r ≡ false → v ≡ true
 passed {r} e left = sym e ∙ not-false r left
 
 pub failed : {r v : Bool} → r ≡ v → not r ≡ true → v ≡ false
 failed {r} e taken = sym e ∙ not-true r taken
+
+-- An outcome that is accepted passed the question, and is the rest's.
+pub accepted-passed : {A : Type 0} (n : ℕ) (b : Bool) {x : A} {rest : Outcome A} → accepted x ≡ ask n b rest → (b ≡ true) × (accepted x ≡ rest)
+accepted-passed n true e = (refl, e)
+accepted-passed n false e = let z : _≡_ {A = ℕ} 0 1 = cc in absurd (omega arith)

@@ -8,7 +8,7 @@ use lib.IntN.{ℤ, pos, negsuc, negℤ, _+ℤ_, _-ℤ_, _*ℤ_, +ℤ-assoc, +ℤ
 use Rattle.tdma_time.specs.Modulo.{modulo, Congruent}
 use Rattle.tdma_time.specs.Slots.{W, half, valid, slots, timeAt, plus, Near, centred, minus, ahead, forward}
 use Rattle.tdma_time.specs.declared.TdmaTime.{TdmaTime}
-use Rattle.tdma_time.proofs.Integers.{by-order, sub-ge, Natural}
+use Rattle.signed.proofs.Integers.{by-order, sub-ge, Natural}
 use Rattle.tdma_time.proofs.Range.{in-range, is-valid, slots-below}
 use Rattle.tdma_time.proofs.Remainders.{modulo-below, modulo-small, modulo-congruent, modulo-same, modulo-frame}
 

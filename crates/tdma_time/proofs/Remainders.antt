@@ -6,7 +6,7 @@ use mathlib.Core.Path.{_≡_, _∙_, ap}
 use lib.IntN.{ℤ, pos, negsuc, subℕ, negℤ, _+ℤ_, _-ℤ_, _*ℤ_, pos-ne-negsuc}
 use Rattle.tdma_time.specs.Modulo.{modulo, Congruent}
 use Rattle.tdma_time.specs.Slots.{W, half}
-use Rattle.tdma_time.proofs.Integers.{by-order, sub-is, sub-negsuc, neg-times, sub-add}
+use Rattle.signed.proofs.Integers.{by-order, sub-is, sub-negsuc, neg-times, sub-add}
 
 -- A difference's remainder, where at most 8 W is taken away.
 modulo-less : (a b : ℕ) → b ≤ 8 * W → modulo (subℕ a b) W ≡ (a + (8 * W - b)) % W

@@ -2,7 +2,7 @@ use native.Mathlib.Omega.{arith}
 use mir.Syntax.{w32}
 use mir.ValLaws.{toZ-pos}
 use mir.Facts.{toZ-ofZ}
-use Rattle.tdma_time.proofs.Integers.{less-fits}
+use Rattle.signed.proofs.Integers.{less-fits}
 use Rattle.tdma_time.proofs.lowered.Statement.{statement}
 use Rattle.tdma_time.proofs.lowered.Tie as tie
 

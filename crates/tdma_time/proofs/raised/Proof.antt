@@ -2,7 +2,7 @@
 use native.Mathlib.Omega.{arith}
 use mir.Syntax.{w32}
 use mir.Facts.{toZ-ofZ}
-use Rattle.tdma_time.proofs.Integers.{widen, widened, natural-fits, natural-cast, raise}
+use Rattle.signed.proofs.Integers.{widen, widened, natural-fits, natural-cast, raise}
 use Rattle.tdma_time.proofs.raised.Statement.{statement}
 use Rattle.tdma_time.proofs.raised.Tie as tie
 

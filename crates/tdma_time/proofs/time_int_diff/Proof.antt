@@ -4,7 +4,7 @@ use mathlib.Core.Path.{_∙_, ap, sym}
 use borrow.Author.Needs.{needs}
 use lib.IntN.{pos, _-ℤ_}
 use Rattle.tdma_time.specs.Slots.{half, centred}
-use Rattle.tdma_time.proofs.Integers.{same-i32}
+use Rattle.signed.proofs.Integers.{same-i32}
 use Rattle.tdma_time.proofs.Remainders.{modulo-centred}
 use Rattle.tdma_time.proofs.time_int_diff.Statement.{statement}
 use Rattle.tdma_time.proofs.time_int_diff.Tie as tie

@@ -1,5 +1,5 @@
 use native.Mathlib.Omega.{arith}
-use Rattle.tdma_time.proofs.Integers.{widen, widened, natural-fits, natural-cast}
+use Rattle.signed.proofs.Integers.{widen, widened, natural-fits, natural-cast}
 use borrow.Author.Needs.{needs}
 use mir.Facts.{toZ-ofZ}
 use mir.Syntax.{w64}

@@ -5,7 +5,7 @@ use lib.IntN.{pos, _-ℤ_}
 use Rattle.questions.proofs.Asked.{passed, failed}
 use Rattle.questions.specs.Outcome.{accepted}
 use Rattle.tdma_time.specs.Slots.{centred, minus}
-use Rattle.tdma_time.proofs.Integers.{same-i32}
+use Rattle.signed.proofs.Integers.{same-i32}
 use Rattle.tdma_time.proofs.TdmaTime.diff.Statement.{statement}
 use Rattle.tdma_time.proofs.TdmaTime.diff.Tie as tie
 

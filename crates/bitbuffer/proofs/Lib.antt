@@ -1,0 +1,4 @@
+pub mod Copying
+pub mod Powers
+pub mod Reading
+pub mod Writing

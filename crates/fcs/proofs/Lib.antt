@@ -1,0 +1,8 @@
+pub mod BitLaws
+pub mod Division
+pub mod Register
+pub mod Ends
+pub mod Computed
+pub mod Table
+pub mod Remainder
+pub mod Examples

@@ -1,0 +1,22 @@
+use borrow.Author.Needs.{needs}
+use Rattle.fcs.proofs.BitLaws.{in-bytes}
+use Rattle.fcs.proofs.inside.Statement.{statement}
+use Rattle.fcs.proofs.inside.Tie as tie
+
+add-result : tie.Need-add-result
+add-result c = search needs
+
+add-result-2 : tie.Need-add-result-2
+add-result-2 c = search needs
+
+add-result-3 : tie.Need-add-result-3
+add-result-3 c = search needs
+
+add-result-4 : tie.Need-add-result-4
+add-result-4 c = search needs
+
+returns : tie.Need-returns
+returns c = in-bytes (c .args .at) (c .args .len) (c .args .part .now)
+
+pub inside-spec : {M : Type 1} → statement M
+inside-spec = tie.close (tie.spec add-result add-result-2 add-result-3 add-result-4 returns)

@@ -1,0 +1,4 @@
+pub mod Polynomials
+pub mod Fcs
+pub mod Register
+pub mod Answers

@@ -1,0 +1,4 @@
+pub mod Answers
+pub mod Headers
+pub mod Sdus
+pub mod Types

@@ -1,0 +1,44 @@
+// The basic link PDUs, from tetra-pdus' llc: BL-ADATA, BL-DATA, BL-UDATA and BL-ACK, read and written in lent bytes.
+mod llc_pdu_type;
+mod reading;
+
+pub use llc_pdu_type::LlcPduType;
+pub use llc_pdu_type::TypeOf;
+pub use reading::from_bitbuf;
+pub use reading::sdu_bytes;
+
+/// A basic link PDU without its SDU.
+pub enum Pdu {
+    /// Clause 21.2.2.2: data, with an acknowledgement.
+    BlAdata { has_fcs: bool, nr: bool, ns: bool },
+    /// Clause 21.2.2.3: data to be acknowledged.
+    BlData { has_fcs: bool, ns: bool },
+    /// Clause 21.2.2.4: data that is not acknowledged.
+    BlUdata { has_fcs: bool },
+    /// Clause 21.2.2.1: an acknowledgement.
+    BlAck { has_fcs: bool, nr: bool },
+}
+
+/// Where an SDU lies in a frame.
+pub struct Sdu {
+    /// Its first bit's place in the frame.
+    pub first: usize,
+    /// How many bits it has.
+    pub len: usize,
+    /// Its first bit's place in the bytes that hold it; 0 if it is empty.
+    pub place: usize,
+}
+
+/// What reading a frame gives.
+pub enum Read {
+    /// A PDU, and where its SDU lies.
+    Frame(Pdu, Sdu),
+    /// Under four bits (number 9).
+    TooShort,
+    /// No basic link PDU: a type of 8 or more (number 10).
+    NotBasic,
+    /// No whole header (number 11).
+    NoHeader,
+    /// The frame has fewer bits than it is said to have (number 5).
+    OutOfRange,
+}
