@@ -5,4 +5,3 @@ pub mod Ends
 pub mod Computed
 pub mod Table
 pub mod Remainder
-pub mod Examples

@@ -1,3 +1,4 @@
 pub mod FirstByte
 pub mod Holding
 pub mod Laws
+pub mod RoundTrip

@@ -21,6 +21,13 @@ header (BlData fcs ns) = 0 ∷ bit fcs ∷ 0 ∷ 1 ∷ bit ns ∷ []
 header (BlUdata fcs) = 0 ∷ bit fcs ∷ 1 ∷ 0 ∷ []
 header (BlAck fcs nr) = 0 ∷ bit fcs ∷ 1 ∷ 1 ∷ bit nr ∷ []
 
+-- The FCS flag of a PDU.
+abbrev pub hasFcs : Pdu → Bool
+hasFcs (BlAdata fcs nr ns) = fcs
+hasFcs (BlData fcs ns) = fcs
+hasFcs (BlUdata fcs) = fcs
+hasFcs (BlAck fcs nr) = fcs
+
 -- The type by its two bits, and how long its header is.
 pub data Kind : Type 0 where
   adata bdata udata ack : Kind

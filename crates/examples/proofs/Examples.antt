@@ -1,0 +1,14 @@
+-- The one proof over document 01's table: the checker computes the whole test.
+use mathlib.Core.Path.{_≡_, refl}
+use mathlib.Core.Bool.{true}
+use Rattle.bits.specs.Bits.{toBits, value}
+use Rattle.fcs.specs.Polynomials.{plus, divisor, rest}
+use Rattle.fcs.specs.Fcs.{start, fcs}
+use Rattle.llc_pdus.specs.Headers.{reading}
+use Rattle.tdma_time.specs.Modulo.{modulo}
+use Rattle.tdma_time.specs.Slots.{slots, timeAt, plus as plusSlots, centred, minus, ahead, forward}
+use Rattle.examples.specs.Table.{table, sameℤ, same, right}
+
+pub examples : right table ≡ true
+unfolding right same sameℤ table toBits value fcs start plus divisor rest reading modulo slots timeAt plusSlots centred minus ahead forward
+examples = refl
