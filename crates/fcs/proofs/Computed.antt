@@ -7,12 +7,13 @@ use borrow.Author.Tests.{leb-true, le-leb}
 use lib.ListN.{length}
 use lib.Dec.{leb, eqb}
 use Rattle.bits.specs.Bits.{toBits, value, bits, part}
+use Rattle.bits.proofs.Laws.{length-part}
+use Rattle.bits.proofs.Bytes.{all-part}
 use Rattle.questions.specs.Outcome.{accepted, ask}
 use Rattle.questions.proofs.Asked.{passed}
 use Rattle.fcs.specs.Register.{fed}
 use Rattle.fcs.specs.Fcs.{start, fcs}
 use Rattle.fcs.specs.Answers.{check}
-use Rattle.fcs.proofs.BitLaws.{all-part, length-part}
 use Rattle.fcs.proofs.Ends.{fcs-fed}
 
 -- What a test of the range leaves, where r is its answer.

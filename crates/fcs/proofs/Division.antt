@@ -6,10 +6,9 @@ use mathlib.Core.Path.{_≡_, _∙_, refl, sym, ap, ap₂}
 use mathlib.Core.List.{List, [], _∷_, _++_}
 use lib.ListN.{length, replicate, length-map}
 use lib.Bits.{bitXor, differ, xor-shr, xor-step}
-use Rattle.bits.specs.Bits.{toBits}
-use Rattle.bits.proofs.Laws.{length-toBits}
-use Rattle.fcs.specs.Polynomials.{plus, AllBits, rest, sum, divisor, scaled}
-use Rattle.fcs.proofs.BitLaws.{cons, all-toBits}
+use Rattle.bits.specs.Bits.{toBits, AllBits}
+use Rattle.bits.proofs.Laws.{length-toBits, all-toBits}
+use Rattle.fcs.specs.Polynomials.{plus, rest, sum, divisor, scaled}
 
 pub plus-nil : (xs : List ℕ) → plus xs [] ≡ xs
 unfolding plus
@@ -21,14 +20,14 @@ unfolding plus
 plus-comm [] [] = refl
 plus-comm [] (y ∷ ys) = refl
 plus-comm (x ∷ xs) [] = refl
-plus-comm (x ∷ xs) (y ∷ ys) = ap₂ cons (omega arith) (plus-comm xs ys)
+plus-comm (x ∷ xs) (y ∷ ys) = ap₂ _∷_ (omega arith) (plus-comm xs ys)
 
 pub plus-assoc : (xs ys zs : List ℕ) → plus (plus xs ys) zs ≡ plus xs (plus ys zs)
 unfolding plus
 plus-assoc [] ys zs = refl
 plus-assoc (x ∷ xs) [] zs = refl
 plus-assoc (x ∷ xs) (y ∷ ys) [] = refl
-plus-assoc (x ∷ xs) (y ∷ ys) (z ∷ zs) = ap₂ cons (omega arith) (plus-assoc xs ys zs)
+plus-assoc (x ∷ xs) (y ∷ ys) (z ∷ zs) = ap₂ _∷_ (omega arith) (plus-assoc xs ys zs)
 
 pub exchange : (a b c d : List ℕ) → plus (plus a b) (plus c d) ≡ plus (plus a c) (plus b d)
 exchange a b c d = rw (plus-assoc a b (plus c d), ← plus-assoc b c d, plus-comm b c, plus-assoc c b d, ← plus-assoc a c (plus b d))
@@ -50,7 +49,7 @@ pub toBits-xor : (n a b : ℕ) → toBits n (bitXor a b) ≡ plus (toBits n a) (
 unfolding toBits plus
 toBits-xor zero a b = refl
 toBits-xor (suc n) a b =
-    ap₂ cons (ap (λ (x : ℕ). x % 2) (xor-shr a b n) ∙ xor-odd (a / 2 ^ n) (b / 2 ^ n)) (toBits-xor n a b)
+    ap₂ _∷_ (ap (λ (x : ℕ). x % 2) (xor-shr a b n) ∙ xor-odd (a / 2 ^ n) (b / 2 ^ n)) (toBits-xor n a b)
 
 scaled-bit : (x y d : ℕ) → d < 2 → sum (x * d) (y * d) ≡ sum x y * d
 scaled-bit x y zero h = omega arith
@@ -58,9 +57,9 @@ scaled-bit x y (suc zero) h = omega arith
 scaled-bit x y (suc (suc d)) h = omega arith
 
 pub scaled-plus : (x y : ℕ) (d : List ℕ) → AllBits d → plus (scaled x d) (scaled y d) ≡ scaled (sum x y) d
-unfolding plus AllBits
+unfolding plus
 scaled-plus x y [] h = refl
-scaled-plus x y (b ∷ d) h = ap₂ cons (scaled-bit x y b (h .0)) (scaled-plus x y d (h .1))
+scaled-plus x y (b ∷ d) h = ap₂ _∷_ (scaled-bit x y b (h .0)) (scaled-plus x y d (h .1))
 
 pub all-divisor : AllBits divisor
 unfolding divisor
@@ -111,7 +110,7 @@ length-rest (suc n) (b ∷ l) h =
     omega (arith, length-rest n (plus (scaled b divisor) l) (omega arith))
 
 pub all-plus : (l m : List ℕ) → AllBits l → AllBits m → AllBits (plus l m)
-unfolding AllBits plus
+unfolding plus
 all-plus [] m h k = k
 all-plus (x ∷ l) [] h k = h
 all-plus (x ∷ l) (y ∷ m) h k = (omega arith, all-plus l m (h .1) (k .1))
@@ -122,35 +121,34 @@ scaled-lt (suc zero) d h k = omega arith
 scaled-lt (suc (suc b)) d h k = absurd (omega arith)
 
 pub all-scaled : (b : ℕ) (d : List ℕ) → b < 2 → AllBits d → AllBits (scaled b d)
-unfolding AllBits
 all-scaled b [] h k = tt
 all-scaled b (x ∷ d) h k = (scaled-lt b x h (k .0), all-scaled b d h (k .1))
 
 pub all-rest : (n : ℕ) (l : List ℕ) → AllBits l → AllBits (rest n l)
-unfolding AllBits rest
+unfolding rest
 all-rest zero l h = h
 all-rest (suc n) [] h = tt
 all-rest (suc n) (b ∷ l) h = all-rest n (plus (scaled b divisor) l) (all-plus (scaled b divisor) l (all-scaled b divisor (h .0) all-divisor) (h .1))
 
 -- Zeros add nothing to bits.
 pub zeros-plus : (n : ℕ) (l : List ℕ) → AllBits l → n ≤ length l → plus (replicate n 0) l ≡ l
-unfolding AllBits plus
+unfolding plus
 zeros-plus zero l h k = refl
 zeros-plus (suc n) [] h k = absurd (omega arith)
-zeros-plus (suc n) (x ∷ l) h k = ap₂ cons (omega arith) (zeros-plus n l (h .1) (omega arith))
+zeros-plus (suc n) (x ∷ l) h k = ap₂ _∷_ (omega arith) (zeros-plus n l (h .1) (omega arith))
 
 -- Bits and more zeros than they are: zeros take the places after them.
 pub plus-zeros : (l : List ℕ) (n : ℕ) → AllBits l → plus l (replicate (length l + n) 0) ≡ l ++ replicate n 0
-unfolding AllBits plus
+unfolding plus
 plus-zeros [] n h = rw (zero-add n)
-plus-zeros (x ∷ l) n h = rw (suc-add (length l) n) (ap₂ cons (omega arith) (plus-zeros l n (h .1)))
+plus-zeros (x ∷ l) n h = rw (suc-add (length l) n) (ap₂ _∷_ (omega arith) (plus-zeros l n (h .1)))
 
 pub plus-append : (a b v w : List ℕ) → length a ≡ length v → plus (a ++ b) (v ++ w) ≡ plus a v ++ plus b w
 unfolding plus
 plus-append [] b [] w h = refl
 plus-append [] b (y ∷ v) w h = absurd (omega arith)
 plus-append (x ∷ a) b [] w h = absurd (omega arith)
-plus-append (x ∷ a) b (y ∷ v) w h = ap (cons (sum x y)) (plus-append a b v w (omega arith))
+plus-append (x ∷ a) b (y ∷ v) w h = ap (_∷_ (sum x y)) (plus-append a b v w (omega arith))
 
 -- The division of the first coefficients leaves the others, with its own remainder added.
 pub rest-head : (xs w : List ℕ) → AllBits w → 32 ≤ length w → rest (length xs) (xs ++ w) ≡ plus (rest (length xs) (xs ++ replicate 32 0)) w

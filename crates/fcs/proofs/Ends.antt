@@ -8,12 +8,12 @@ use mathlib.Core.List.{List, [], _∷_, _++_}
 use borrow.Author.Tests.{le-leb, lt-ltb, le-ltb, ltb-true, ltb-false}
 use lib.Dec.{ltb}
 use lib.ListN.{length, drop, replicate, length-map}
-use Rattle.bits.specs.Bits.{toBits, value}
-use Rattle.bits.proofs.Laws.{length-toBits}
-use Rattle.fcs.specs.Polynomials.{plus, AllBits, rest, sum, divisor}
+use Rattle.bits.specs.Bits.{toBits, value, AllBits}
+use Rattle.bits.proofs.Laws.{length-toBits, toBits-mod, value-toBits, all-toBits}
+use Rattle.bits.proofs.Bytes.{drop-toBits, shifted}
+use Rattle.fcs.specs.Polynomials.{plus, rest, sum, divisor}
 use Rattle.fcs.specs.Register.{fed, entry}
 use Rattle.fcs.specs.Fcs.{start, inverted, fcs}
-use Rattle.fcs.proofs.BitLaws.{all-toBits, drop-toBits, value-toBits, toBits-mod, shifted}
 use Rattle.fcs.proofs.Register.{fed-toBits, fed-lt}
 
 pub entry-none : entry 1 0 ≡ 0
@@ -64,7 +64,7 @@ turned (suc zero) p v w h e = omega arith
 turned (suc (suc b)) p v w h e = absurd (omega arith)
 
 value-inverted : (l : List ℕ) → AllBits l → value (inverted l) + value l + 1 ≡ 2 ^ length l
-unfolding value AllBits
+unfolding value
 value-inverted [] h = refl
 value-inverted (b ∷ l) h =
     rw (length-map l (λ (x : ℕ). sum x 1), pow-suc 2 (length l))

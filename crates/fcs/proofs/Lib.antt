@@ -1,4 +1,3 @@
-pub mod BitLaws
 pub mod Division
 pub mod Register
 pub mod Ends

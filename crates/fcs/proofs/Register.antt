@@ -4,14 +4,13 @@ use native.Mathlib.Nat.{mod-eq-of-lt}
 use native.Mathlib.Omega.{arith}
 use mathlib.Core.Path.{_≡_, _∙_, refl, sym, ap}
 use mathlib.Core.List.{List, [], _++_, append-assoc}
-use lib.ListN.{length, drop, length-append, replicate}
+use lib.ListN.{length, length-append, replicate}
 use lib.Bits.{bitXor, xor-lt}
-use lib.Seq.{drop-drop, take-add}
-use Rattle.bits.specs.Bits.{toBits, value, bits, part}
-use Rattle.bits.proofs.Laws.{length-toBits}
-use Rattle.fcs.specs.Polynomials.{plus, AllBits, rest}
+use Rattle.bits.specs.Bits.{toBits, value, bits, part, AllBits}
+use Rattle.bits.proofs.Laws.{length-toBits, toBits-append, toBits-mod, value-toBits, all-toBits, all-append, value-below, toBits-value, part-append}
+use Rattle.bits.proofs.Bytes.{all-zeros, all-part, shifted}
+use Rattle.fcs.specs.Polynomials.{plus, rest}
 use Rattle.fcs.specs.Register.{fed, entry}
-use Rattle.fcs.proofs.BitLaws.{all-toBits, all-append, all-zeros, all-part, toBits-append, value-toBits, toBits-mod, shifted, value-lt, toBits-value}
 use Rattle.fcs.proofs.Division.{plus-comm, plus-assoc, toBits-xor, rest-zero, rest-plus, rest-add, length-plus, length-rest, all-plus, all-rest, zeros-plus, plus-zeros, plus-append, rest-head}
 
 -- What is left of n coefficients and 32 more is 32 bits.
@@ -23,7 +22,7 @@ module _ (n : ℕ) (l : List ℕ) (long : length l ≡ n + 32) (h : AllBits l) w
   left-toBits = rw length-left at (toBits-value (rest n l) (all-rest n l h))
 
   left-lt : value (rest n l) < 2 ^ 32
-  left-lt = rw length-left at (value-lt (rest n l) (all-rest n l h))
+  left-lt = rw length-left at (value-below (rest n l) (all-rest n l h))
 
 length-tail : (m : List ℕ) → length (m ++ replicate 32 0) ≡ length m + 32
 length-tail m = length-append m (replicate 32 0)
@@ -142,5 +141,5 @@ fed-step j k crc v e =
 pub fed-more : (crc : ℕ) (l : List ℕ) (at i k : ℕ)
     → fed crc (part (bits l) at (i + k)) ≡ fed (fed crc (part (bits l) at i)) (part (bits l) (at + i) k)
 fed-more crc l at i k =
-    rw (take-add i k (drop at (bits l)), drop-drop i at (bits l))
+    rw (part-append (bits l) at i k)
     (fed-append crc (part (bits l) at i) (part (bits l) (at + i) k) (all-part l at i) (all-part l (at + i) k))

@@ -5,10 +5,11 @@ use native.Mathlib.Omega.{arith}
 use mathlib.Core.Path.{_≡_, _∙_, refl, sym, ap, ap₂}
 use mathlib.Core.List.{List, [], _∷_, _++_}
 use lib.ListN.{length, replicate, length-append, length-replicate}
-use Rattle.bits.specs.Bits.{toBits}
-use Rattle.fcs.specs.Polynomials.{sum, plus, scaled, times, divisor, rest, AllBits, Divided}
+use Rattle.bits.specs.Bits.{toBits, AllBits}
+use Rattle.bits.proofs.Laws.{all-append}
+use Rattle.bits.proofs.Bytes.{all-zeros}
+use Rattle.fcs.specs.Polynomials.{sum, plus, scaled, times, divisor, rest, Divided}
 use Rattle.fcs.specs.Fcs.{start, inverted, fcs}
-use Rattle.fcs.proofs.BitLaws.{cons, all-append, all-zeros}
 use Rattle.fcs.proofs.Division.{plus-assoc, scaled-plus, all-divisor, length-plus, length-scaled, all-plus, all-scaled, all-rest, zeros-plus, rest-zero}
 use Rattle.fcs.proofs.Register.{length-dividend, all-dividend}
 use Rattle.fcs.proofs.Ends.{start-bits}
@@ -28,7 +29,7 @@ times-cons : (b n : ℕ) (q r : List ℕ) → b < 2
     → plus (times (b ∷ q) (1 ∷ divisor)) (replicate (suc n) 0 ++ r)
     ≡ b ∷ plus (scaled b divisor) (plus (times q (1 ∷ divisor)) (replicate n 0 ++ r))
 unfolding times plus
-times-cons b n q r h = ap₂ cons (omega arith) (plus-assoc (scaled b divisor) (times q (1 ∷ divisor)) (replicate n 0 ++ r))
+times-cons b n q r h = ap₂ _∷_ (omega arith) (plus-assoc (scaled b divisor) (times q (1 ∷ divisor)) (replicate n 0 ++ r))
 
 none-times : (r : List ℕ) → plus (times [] (1 ∷ divisor)) r ≡ r
 unfolding times plus
@@ -46,7 +47,7 @@ next-bits b l h k = all-plus (scaled b divisor) l (all-scaled b divisor h all-di
 
 -- With some quotient, `rest` is what is left.
 pub remainder : (n : ℕ) (l : List ℕ) → AllBits l → length l ≡ n + 32 → Divided n l (rest n l)
-unfolding rest AllBits
+unfolding rest
 remainder zero l h e = record { quotient = []; long = refl; bits = tt; below = omega arith; left = h; exact = sym (none-times l) }
 remainder (suc n) [] h e = absurd (omega arith)
 remainder (suc n) (b ∷ l) h e =
@@ -61,7 +62,7 @@ remainder (suc n) (b ∷ l) h e =
       exact =
           sym
           (times-cons b n (d .quotient) (rest n (plus (scaled b divisor) l)) (h .0)
-          ∙ ap (cons b) (ap (plus (scaled b divisor)) (sym (d .exact)) ∙ twice b l (h .1) (omega arith)));
+          ∙ ap (_∷_ b) (ap (plus (scaled b divisor)) (sym (d .exact)) ∙ twice b l (h .1) (omega arith)));
     }
 
 length-times : (q : List ℕ) → length (times q (1 ∷ divisor)) ≤ length q + 32
@@ -71,7 +72,7 @@ length-times (b ∷ q) =
     omega (arith, length-plus (scaled b divisor) (times q (1 ∷ divisor)), length-scaled b, length-times q)
 
 all-times : (q : List ℕ) → AllBits q → AllBits (times q (1 ∷ divisor))
-unfolding times AllBits
+unfolding times
 all-times [] h = tt
 all-times (b ∷ q) h =
     all-plus (scaled b (1 ∷ divisor)) (0 ∷ times q (1 ∷ divisor))
@@ -94,7 +95,6 @@ module _ (r : List ℕ) (below : length r ≡ 32) (bits : AllBits r) where
       (all-append (replicate (length q) 0) r (all-zeros (length q)) bits)
 
   rest-whole : (q : List ℕ) → AllBits q → rest (length q) (whole q) ≡ r
-  unfolding AllBits
   rest-whole [] h = rest-zero (plus (times [] (1 ∷ divisor)) r) ∙ none-times r
   rest-whole (b ∷ q) h =
       ap (rest (suc (length q))) (times-cons b (length q) q r (h .0))
@@ -107,9 +107,8 @@ pub only-remainder : (n : ℕ) (l r : List ℕ) → Divided n l r → rest n l �
 only-remainder n l r d = rw (d .exact, ← d .long) (rest-whole r (d .below) (d .left) (d .quotient) (d .bits))
 
 inverted-twice : (l : List ℕ) → AllBits l → inverted (inverted l) ≡ l
-unfolding AllBits
 inverted-twice [] h = refl
-inverted-twice (b ∷ l) h = ap₂ cons (omega arith) (inverted-twice l (h .1))
+inverted-twice (b ∷ l) h = ap₂ _∷_ (omega arith) (inverted-twice l (h .1))
 
 -- The check bits, inverted, are what is left of the message times x ^ 32 with the start added.
 pub fcs-divided : (m : List ℕ) → AllBits m → Divided (length m) (plus (start (length m)) (m ++ replicate 32 0)) (inverted (fcs m))

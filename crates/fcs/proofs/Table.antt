@@ -2,22 +2,19 @@
 use Prim.Native.Nat.{ℕ, zero, suc, _+_, _<_}
 use native.Mathlib.Nat.{add-zero, zero-add, suc-add, add-suc}
 use native.Mathlib.Omega.{arith}
-use mathlib.Core.Path.{_≡_, _∙_, refl, sym, ap}
-use mathlib.Core.Bool.{Bool, true, false, _&&_, false≢true}
+use mathlib.Core.Path.{_≡_, _∙_, sym, ap}
+use mathlib.Core.Bool.{Bool, true, _&&_}
 use mathlib.Core.List.{List, [], _∷_}
 use borrow.Author.Tests.{eqb-true}
 use lib.Dec.{eqb}
 use lib.ListN.{length, getD}
+use Rattle.questions.proofs.Asked.{both}
 use Rattle.fcs.specs.Register.{entry, Ruled}
 
 -- Each of l is the entry of its place, counted from i.
 abbrev pub right : ℕ → List ℕ → Bool
 right i [] = true
 right i (x ∷ l) = eqb x (entry 8 i) && right (suc i) l
-
-both : (a b : Bool) → a && b ≡ true → (a ≡ true) × (b ≡ true)
-both true b e = (refl, e)
-both false b e = absurd (false≢true e)
 
 at-place : (l : List ℕ) (i k : ℕ) → right i l ≡ true → k < length l → getD l k 0 ≡ entry 8 (i + k)
 at-place [] i k e h = absurd (omega arith)

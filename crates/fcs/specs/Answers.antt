@@ -12,9 +12,9 @@ use Rattle.fcs.specs.declared.Checked.{Checked}
 use Rattle.fcs.specs.declared.Checked.the-variants.{Right, Wrong}
 
 -- What an `Fcs` says: the 32 check bits as a number, or number 5.
-abbrev pub sum : FcsModule.Fcs → Outcome ℕ
-sum (Sum n) = accepted n
-sum FcsModule.Fcs.OutOfRange = refused 5
+abbrev pub summed : FcsModule.Fcs → Outcome ℕ
+summed (Sum n) = accepted n
+summed FcsModule.Fcs.OutOfRange = refused 5
 
 -- The check bits of n bits of l from a place on, as a number: question 5 asks whether they lie inside l.
 abbrev pub computed : List ℕ → ℕ → ℕ → Outcome ℕ

@@ -1,9 +1,9 @@
 -- Polynomials over bits: a list of bits is a polynomial, the coefficient of the highest power first.
-use Prim.Native.Nat.{ℕ, zero, suc, _+_, _*_, _%_, _<_}
+use Prim.Native.Nat.{ℕ, zero, suc, _+_, _*_, _%_}
 use mathlib.Core.Path.{_≡_}
 use mathlib.Core.List.{List, [], _∷_, _++_, map}
 use lib.ListN.{length, replicate}
-use Rattle.bits.specs.Bits.{toBits}
+use Rattle.bits.specs.Bits.{toBits, AllBits}
 
 -- The sum of two bits.
 abbrev pub sum : ℕ → ℕ → ℕ
@@ -34,11 +34,6 @@ unfoldable pub rest : ℕ → List ℕ → List ℕ
 rest zero l = l
 rest (suc n) [] = []
 rest (suc n) (b ∷ l) = rest n (plus (scaled b divisor) l)
-
--- Every coefficient is 0 or 1.
-unfoldable pub AllBits : List ℕ → Type 0
-AllBits [] = Unit {0}
-AllBits (x ∷ xs) = (x < 2) × AllBits xs
 
 -- l is n coefficients times the whole divisor of 33 bits, and r in the lowest 32 places.
 pub record Divided (n : ℕ) (l r : List ℕ) : Type 0 where

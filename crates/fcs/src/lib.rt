@@ -6,7 +6,7 @@ ghost use lib.ListN.{length};
 ghost use Rattle.bits.specs.Bits.{toBits, value, bits, part as cut};
 ghost use Rattle.fcs.specs.Fcs.{start, fcs};
 ghost use Rattle.fcs.specs.Register.{fed, Ruled};
-ghost use Rattle.fcs.specs.Answers.{sum, computed, checked, check};
+ghost use Rattle.fcs.specs.Answers.{summed, computed, checked, check};
 
 /// The check bits as a number, or that the bits asked for lie outside the part (number 5).
 pub enum Fcs {
@@ -347,7 +347,7 @@ fn fed_bits(part: &[u8], at: usize, len: usize, crc: u32) -> u32
 
 /// The check bits of len bits from at on, bit by bit: the plain form of compute_fcs.
 pub fn compute_fcs_by_bits(part: &[u8], at: usize, len: usize) -> Fcs
-    ensures { λ r. ⌜ sum r ≡ computed (bits (now (part .entry))) at len ⌝ }
+    ensures { λ r. ⌜ summed r ≡ computed (bits (now (part .entry))) at len ⌝ }
 {
     if !inside(part, at, len) {
         return Fcs::OutOfRange;
@@ -424,7 +424,7 @@ fn word_at(part: &[u8], at: usize, i: usize) -> u32
 
 /// The check bits of len bits from at on.
 pub fn compute_fcs(part: &[u8], at: usize, len: usize) -> Fcs
-    ensures { λ r. ⌜ sum r ≡ computed (bits (now (part .entry))) at len ⌝ }
+    ensures { λ r. ⌜ summed r ≡ computed (bits (now (part .entry))) at len ⌝ }
 {
     if !inside(part, at, len) {
         return Fcs::OutOfRange;

@@ -2,16 +2,21 @@
 -- what an accepted outcome says of the question that it passed.
 use Prim.Native.Nat.{ℕ}
 use mathlib.Core.Path.{_≡_, _∙_, refl, sym}
-use mathlib.Core.Bool.{Bool, true, false, not}
+use mathlib.Core.Bool.{Bool, true, false, not, _&&_, false≢true}
 use borrow.Author.Tests.{not-true, not-false}
 use native.Mathlib.Omega.{arith}
-use Rattle.questions.specs.Outcome.{Outcome, accepted, refused, ask}
+use Rattle.questions.specs.Outcome.{Outcome, accepted, ask}
 
 pub passed : {r v : Bool} → r ≡ v → not r ≡ false → v ≡ true
 passed {r} e left = sym e ∙ not-false r left
 
 pub failed : {r v : Bool} → r ≡ v → not r ≡ true → v ≡ false
 failed {r} e taken = sym e ∙ not-true r taken
+
+-- Two questions that were passed as one.
+pub both : (x y : Bool) → x && y ≡ true → (x ≡ true) × (y ≡ true)
+both true y h = (refl, h)
+both false y h = absurd (false≢true h)
 
 -- An outcome that is accepted passed the question, and is the rest's.
 pub accepted-passed : {A : Type 0} (n : ℕ) (b : Bool) {x : A} {rest : Outcome A} → accepted x ≡ ask n b rest → (b ≡ true) × (accepted x ≡ rest)

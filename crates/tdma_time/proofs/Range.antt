@@ -1,16 +1,13 @@
 -- What it says of a time's fields that it is in range, and that its slots are then below W.
 use Prim.Native.Nat.{_≤_, _<_}
 use native.Mathlib.Omega.{arith}
-use mathlib.Core.Path.{_≡_, refl}
-use mathlib.Core.Bool.{Bool, true, false, _&&_, false≢true}
+use mathlib.Core.Path.{_≡_}
+use mathlib.Core.Bool.{true, _&&_}
 use borrow.Author.Tests.{leb-true, le-leb}
 use lib.Dec.{leb}
+use Rattle.questions.proofs.Asked.{both}
 use Rattle.tdma_time.specs.Slots.{W, valid, slots}
 use Rattle.tdma_time.specs.declared.TdmaTime.{TdmaTime}
-
-pub both : (x y : Bool) → x && y ≡ true → (x ≡ true) × (y ≡ true)
-both true y h = (refl, h)
-both false y h = absurd (false≢true h)
 
 pub record InRange (a : TdmaTime) : Type 0 where
   pub t-low : 1 ≤ a .t

@@ -4,8 +4,7 @@ use mathlib.Core.Path.{_≡_, _∙_, sym}
 use mathlib.Core.List.{List}
 use borrow.Author.Needs.{needs}
 use lib.ListN.{length, getD}
-use Rattle.bits.proofs.Laws.{length-bits}
-use Rattle.fcs.proofs.BitLaws.{toBits-mod, in-byte}
+use Rattle.bits.proofs.Laws.{length-bits, toBits-mod, bits-part}
 use Rattle.fcs.proofs.bit_at.Statement.{statement}
 use Rattle.fcs.proofs.bit_at.Tie as tie
 
@@ -46,7 +45,7 @@ returns c =
     let e : 8 * q + o % 8 ≡ at + i = omega arith in
     let h : q < length l = omega (arith, length-bits l, c .before .pre) in (
       omega arith,
-      toBits-mod 1 (getD l q 0 / 2 ^ (7 - o % 8)) ∙ sym (rw e at (in-byte l q (o % 8) 1 (7 - o % 8) (omega arith) h)),
+      toBits-mod 1 (getD l q 0 / 2 ^ (7 - o % 8)) ∙ sym (rw e at (bits-part l q (o % 8) 1 (7 - o % 8) h (omega arith))),
     )
 
 pub bit-at-spec : {M : Type 1} → statement M

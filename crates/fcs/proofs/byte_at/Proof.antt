@@ -7,8 +7,8 @@ use mathlib.Core.List.{List}
 use borrow.Author.Needs.{needs}
 use lib.ListN.{length, getD}
 use Rattle.bits.specs.Bits.{toBits}
-use Rattle.bits.proofs.Laws.{length-bits}
-use Rattle.fcs.proofs.BitLaws.{toBits-mod, in-byte, in-two-bytes}
+use Rattle.bits.proofs.Laws.{length-bits, toBits-mod, bits-part}
+use Rattle.bits.proofs.Bytes.{in-two-bytes}
 use Rattle.fcs.proofs.byte_at.Statement.{statement}
 use Rattle.fcs.proofs.byte_at.Tie as tie
 
@@ -23,7 +23,7 @@ returns c =
     let args = c .before .before .args in
     let h : args .q < length (args .part .now) = omega (arith, length-bits (args .part .now), c .before .before .pre) in (
       omega (arith, c .before .shared-slice-known .given (args .q)),
-      sym (in-byte (args .part .now) (args .q) (args .s) 8 0 (omega arith) h ∙ ap (toBits 8) (div-one (getD (args .part .now) (args .q) 0))),
+      sym (bits-part (args .part .now) (args .q) (args .s) 8 0 h (omega arith) ∙ ap (toBits 8) (div-one (getD (args .part .now) (args .q) 0))),
     )
 
 mul-two : tie.Need-mul-two

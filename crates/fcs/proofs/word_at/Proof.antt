@@ -4,7 +4,7 @@ use mathlib.Core.Path.{_≡_}
 use mathlib.Core.List.{List}
 use borrow.Author.Needs.{needs}
 use Rattle.bits.specs.Bits.{bits}
-use Rattle.fcs.proofs.BitLaws.{value-nil, value-more}
+use Rattle.bits.proofs.Bytes.{value-nil, value-more}
 use Rattle.fcs.proofs.word_at.Statement.{statement}
 use Rattle.fcs.proofs.word_at.Tie as tie
 
