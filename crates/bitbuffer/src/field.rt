@@ -3,7 +3,7 @@
 ghost use Prim.Native.Nat.{_+_, _-_, _*_, _/_, _%_, _^_, _≤_, _<_, min};
 ghost use mathlib.Core.Path.{_≡_};
 ghost use mathlib.Core.List.{_++_};
-ghost use lib.ListN.{length};
+ghost use lib.ListN.{length, replicate};
 ghost use Rattle.bits.specs.Bits.{toBits, value, bits, part, splice};
 
 // The number that n bits from a place on spell.
@@ -63,6 +63,24 @@ fn put_from(bytes: &mut [u8], first: usize, place: usize, n: usize, v: u64)
     }
 }
 
+// Puts n times a bit at a place, by up to 64 at once.
+pub(crate) fn fill(bytes: &mut [u8], at: usize, n: usize, bit: u64)
+    requires { ⌜ bit < 2 ⌝ }
+    requires { ⌜ at + n ≤ 8 * length (now bytes) ⌝ }
+    requires { ⌜ at + n < 2 ^ 64 ⌝ }
+    ensures { λ _. ⌜ bits (now (bytes .exit)) ≡ splice (bits (now (bytes .entry))) at (replicate n bit) ⌝ }
+{
+    let pattern = bit * 18_446_744_073_709_551_615;
+    let mut p = at;
+    let mut left = n;
+    while 0 < left {
+        let h = less(left, 64);
+        put(bytes, p, h, pattern);
+        p += h;
+        left -= h;
+    }
+}
+
 // Puts n bits of src from a place on at a place of dst: up to the next whole byte, whole bytes, and what is left.
 pub(crate) fn copy(src: &[u8], from: usize, dst: &mut [u8], at: usize, n: usize)
     requires { ⌜ from + n ≤ 8 * length (now src) ⌝ }
@@ -94,7 +112,7 @@ fn copy_field(src: &[u8], from: usize, dst: &mut [u8], at: usize, n: usize)
 }
 
 // The same for k whole bytes of dst from byte q on.
-fn copy_bytes(src: &[u8], from: usize, dst: &mut [u8], q: usize, k: usize)
+pub(crate) fn copy_bytes(src: &[u8], from: usize, dst: &mut [u8], q: usize, k: usize)
     requires { ⌜ from + 8 * k ≤ 8 * length (now src) ⌝ }
     requires { ⌜ q + k ≤ length (now dst) ⌝ }
     ensures { λ _. ⌜ bits (now (dst .exit)) ≡ splice (bits (now (dst .entry))) (8 * q) (part (bits (now (src .entry))) from (8 * k)) ⌝ }

@@ -1,4 +1,5 @@
 pub mod FirstByte
+pub mod Framing
 pub mod Holding
 pub mod Laws
 pub mod RoundTrip

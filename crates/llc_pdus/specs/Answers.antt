@@ -9,6 +9,7 @@ use Rattle.llc_pdus.specs.Sdus.{sduAt}
 use Rattle.llc_pdus.specs.declared.Pdu.{Pdu}
 use Rattle.llc_pdus.specs.declared.Sdu.{Sdu}
 use Rattle.llc_pdus.specs.declared.Read.{Read}
+use Rattle.llc_pdus.specs.declared.Written.{Written}
 
 -- A frame taken apart.
 pub record Frame : Type 0 where
@@ -22,6 +23,12 @@ answered Read.TooShort = refused 9
 answered Read.NotBasic = refused 10
 answered Read.NoHeader = refused 11
 answered Read.OutOfRange = refused 5
+
+-- What a `Written` says: the frame's length in bits.
+abbrev pub written : Written → Outcome ℕ
+written (Written.Bits n) = accepted n
+written Written.OutOfRange = refused 5
+written Written.NoRoom = refused 8
 
 -- The PDU and the SDU of n bits: what is behind the header.
 abbrev pub frameOf : ℕ → Reading → Frame

@@ -1,11 +1,14 @@
 // The basic link PDUs, from tetra-pdus' llc: BL-ADATA, BL-DATA, BL-UDATA and BL-ACK, read and written in lent bytes.
 mod llc_pdu_type;
 mod reading;
+mod writing;
 
 pub use llc_pdu_type::LlcPduType;
 pub use llc_pdu_type::TypeOf;
 pub use reading::from_bitbuf;
 pub use reading::sdu_bytes;
+pub use writing::N251_BL_MAX_TLSDU_LEN_BITS;
+pub use writing::to_bitbuf;
 
 /// A basic link PDU without its SDU.
 pub enum Pdu {
@@ -41,4 +44,14 @@ pub enum Read {
     NoHeader,
     /// The frame has fewer bits than it is said to have (number 5).
     OutOfRange,
+}
+
+/// What writing a frame gives.
+pub enum Written {
+    /// The frame's length in bits.
+    Bits(usize),
+    /// The SDU has over 2,595 bits, or does not lie in its bytes (number 5).
+    OutOfRange,
+    /// The frame does not fit into the lent bytes (number 8).
+    NoRoom,
 }

@@ -1,0 +1,84 @@
+//! Times each leaf of the proved library beside the Rust that it was translated from.
+use std::hint::black_box;
+use std::time::Instant;
+use tetra_core::BitBuffer;
+
+#[path = "SOURCE/tetra-pdus/src/llc/pdus/bl_data.rs"]
+mod bl_data;
+#[path = "SOURCE/tetra-entities/src/llc/components/fcs.rs"]
+mod fcs;
+
+unsafe extern "C" {
+    fn leaf_fcs(part: *const u8, part_len: usize, at: usize, len: usize) -> u64;
+    fn leaf_read(frame: *const u8, frame_len: usize, len: usize) -> u64;
+    fn leaf_copy(dst: *mut u8, dst_len: usize, at: usize, src: *const u8, src_len: usize, from: usize, n: usize) -> u64;
+}
+
+/// Nanoseconds a call, the least of nine rounds.
+fn time(mut f: impl FnMut()) -> f64 {
+    let rounds = 20_000;
+    (0..9)
+        .map(|_| {
+            let start = Instant::now();
+            for _ in 0..rounds {
+                f();
+            }
+            start.elapsed().as_nanos() as f64 / rounds as f64
+        })
+        .fold(f64::INFINITY, f64::min)
+}
+
+fn row(what: &str, ours: f64, rust: f64) {
+    println!("| {what} | {ours:.1} | {rust:.1} | {:.2} |", rust / ours);
+}
+
+fn main() {
+    const BITS: usize = 2595;
+    const AT: usize = 5;
+    let mut frame: Vec<u8> = (0..336u32).map(|i| (i * 37 + 11) as u8).collect();
+    frame[0] = 0b0101_1000 | frame[0] & 7;
+    println!("| what | here, ns | Rust, ns | times faster |");
+    println!("|---|---|---|---|");
+
+    let mut buf = BitBuffer::from_bytes(&frame);
+    assert_eq!(unsafe { leaf_read(frame.as_ptr(), frame.len(), AT + BITS) }, AT as u64);
+    let ours = time(|| {
+        black_box(unsafe { leaf_read(black_box(frame.as_ptr()), frame.len(), AT + BITS) });
+    });
+    let rust = time(|| {
+        buf.seek(0);
+        black_box(buf.peek_bits(4));
+        black_box(bl_data::BlData::from_bitbuf(&mut buf).unwrap());
+    });
+    row("reading a header", ours, rust);
+
+    let source: Vec<u8> = (0..325u32).map(|i| (i * 91 + 3) as u8).collect();
+    let (mut a, mut b) = (vec![0u8; 336], BitBuffer::new(336 * 8));
+    let mut src = BitBuffer::from_bytes(&source);
+    unsafe { leaf_copy(a.as_mut_ptr(), a.len(), AT, source.as_ptr(), source.len(), 0, BITS) };
+    b.seek(AT);
+    b.copy_bits(&mut src, BITS);
+    assert_eq!(a, b.clone().into_bytes());
+    let ours = time(|| {
+        black_box(unsafe { leaf_copy(black_box(a.as_mut_ptr()), a.len(), AT, source.as_ptr(), source.len(), 0, BITS) });
+    });
+    let rust = time(|| {
+        b.seek(AT);
+        src.seek(0);
+        b.copy_bits(black_box(&mut src), BITS);
+    });
+    row("copying 2,595 bits to offset 5", ours, rust);
+
+    let whole = BitBuffer::from_bytes(&frame);
+    for (at, len) in [(AT, BITS), (0, 32), (3, 31), (0, 0), (7, 100)] {
+        let ours = unsafe { leaf_fcs(frame.as_ptr(), frame.len(), at, len) };
+        assert_eq!(ours, fcs::compute_fcs(&whole, at, at + len) as u64);
+    }
+    let ours = time(|| {
+        black_box(unsafe { leaf_fcs(black_box(frame.as_ptr()), frame.len(), AT, BITS) });
+    });
+    let rust = time(|| {
+        black_box(fcs::compute_fcs(black_box(&whole), AT, AT + BITS));
+    });
+    row("the FCS over 2,595 bits at offset 5", ours, rust);
+}

@@ -1,0 +1,13 @@
+-- An answer as one number, for a caller in another language: a refusal is 2 ^ 32 and document 01's number.
+use Prim.Native.Nat.{ℕ, _+_, _^_}
+use Rattle.questions.specs.Outcome.{Outcome, accepted, refused}
+use Rattle.llc_pdus.specs.Answers.{Frame}
+
+abbrev pub sumOr : Outcome ℕ → ℕ
+sumOr (accepted n) = n
+sumOr (refused k) = 2 ^ 32 + k
+
+-- Of a frame that is read, the SDU's first bit's place.
+abbrev pub firstOr : Outcome Frame → ℕ
+firstOr (accepted f) = f .sdu .first
+firstOr (refused k) = 2 ^ 32 + k

@@ -1,0 +1,86 @@
+-- A frame put together: what a header is as a number, and what the questions 5 and 8 say.
+use Prim.Native.Nat.{ℕ, _+_, _-_, _*_, _^_, _≤_, _<_, min}
+use native.Mathlib.Omega.{arith}
+use mathlib.Core.Path.{_≡_, _∙_, ap}
+use mathlib.Core.Bool.{Bool, true, false, and-false}
+use mathlib.Core.List.{List}
+use borrow.Author.Tests.{le-leb, lt-leb}
+use lib.Dec.{leb}
+use lib.ListN.{length}
+use Rattle.bits.specs.Bits.{value, part, splice, AllBits}
+use Rattle.bits.proofs.Laws.{length-part, splice-splice}
+use Rattle.questions.specs.Outcome.{accepted, refused}
+use Rattle.llc_pdus.specs.Headers.{bit, header}
+use Rattle.llc_pdus.specs.Writes.{longest, frame, effect, written}
+use Rattle.llc_pdus.specs.declared.Pdu.{Pdu}
+use Rattle.llc_pdus.specs.declared.Pdu.the-variants.{BlAdata, BlData, BlUdata, BlAck}
+
+-- The headers as numbers.
+pub value-adata : (f r s : Bool) → value (header (BlAdata f r s)) ≡ bit f * 16 + bit r * 2 + bit s
+unfolding value
+value-adata f r s = omega arith
+
+pub value-data : (f s : Bool) → value (header (BlData f s)) ≡ bit f * 8 + 2 + bit s
+unfolding value
+value-data f s = omega arith
+
+pub value-udata : (f : Bool) → value (header (BlUdata f)) ≡ bit f * 4 + 2
+unfolding value
+value-udata f = omega arith
+
+pub value-ack : (f r : Bool) → value (header (BlAck f r)) ≡ bit f * 8 + 6 + bit r
+unfolding value
+value-ack f r = omega arith
+
+-- A header is a list of bits, and has at most six.
+bit-below : (b : Bool) → bit b < 2
+bit-below true = omega arith
+bit-below false = omega arith
+
+pub all-header : (p : Pdu) → AllBits (header p)
+all-header (BlAdata f r s) =
+    (omega arith, (bit-below f, (omega arith, (omega arith, (bit-below r, (bit-below s, tt))))))
+all-header (BlData f s) = (omega arith, (bit-below f, (omega arith, (omega arith, (bit-below s, tt)))))
+all-header (BlUdata f) = (omega arith, (bit-below f, (omega arith, (omega arith, tt))))
+all-header (BlAck f r) = (omega arith, (bit-below f, (omega arith, (omega arith, (bit-below r, tt)))))
+
+pub header-small : (p : Pdu) → length (header p) ≤ 6
+header-small (BlAdata f r s) = omega arith
+header-small (BlData f s) = omega arith
+header-small (BlUdata f) = omega arith
+header-small (BlAck f r) = omega arith
+
+module _ (p : Pdu) (l s : List ℕ) (from n : ℕ) where
+  -- Question 5 fails by the length, or by the source; question 8 fails; none does.
+  pub too-long : longest < n → written p l s from n ≡ effect (refused 5) l
+  too-long h = rw (lt-leb n longest h)
+
+  pub no-source : min (length s) (2 ^ 64 - 1) < from + n → written p l s from n ≡ effect (refused 5) l
+  no-source h = rw (lt-leb (from + n) (min (length s) (2 ^ 64 - 1)) h, and-false (leb n longest))
+
+  pub no-room :
+      n ≤ longest
+      → from + n ≤ min (length s) (2 ^ 64 - 1)
+      → length l < length (header p) + n
+      → written p l s from n ≡ effect (refused 8) l
+  no-room few there short =
+      rw (le-leb n longest few, le-leb (from + n) (min (length s) (2 ^ 64 - 1)) there, lt-leb (length (header p) + n) (length l) short)
+
+  pub has-room :
+      n ≤ longest
+      → from + n ≤ min (length s) (2 ^ 64 - 1)
+      → length (header p) + n ≤ length l
+      → written p l s from n ≡ effect (accepted (length (header p) + n)) (splice l 0 (frame p s from n))
+  has-room few there fits =
+      rw (le-leb n longest few, le-leb (from + n) (min (length s) (2 ^ 64 - 1)) there, le-leb (length (header p) + n) (length l) fits)
+
+  -- The header, and the SDU behind it, are the frame.
+  pub in-two :
+      from + n ≤ length s
+      → length (header p) + n ≤ length l
+      → splice (splice l 0 (header p)) (length (header p)) (part s from n) ≡ splice l 0 (frame p s from n)
+  in-two there fits =
+      let long = length-part s from n there in
+      let here : length (header p) ≡ 0 + length (header p) = omega arith in
+      ap (λ (k : ℕ). splice (splice l 0 (header p)) k (part s from n)) here
+      ∙ splice-splice l 0 (header p) (part s from n) (omega arith)
