@@ -11,7 +11,7 @@ mod fcs;
 unsafe extern "C" {
     fn leaf_fcs(part: *const u8, part_len: usize, at: usize, len: usize) -> u64;
     fn leaf_read(frame: *const u8, frame_len: usize, len: usize) -> u64;
-    fn leaf_copy(dst: *mut u8, dst_len: usize, at: usize, src: *const u8, src_len: usize, from: usize, n: usize) -> u64;
+    fn leaf_write(out: *mut u8, out_len: usize, sdu: *const u8, sdu_len: usize, from: usize, len: usize) -> u64;
 }
 
 /// Nanoseconds a call, the least of nine rounds.
@@ -52,22 +52,26 @@ fn main() {
     });
     row("reading a header", ours, rust);
 
+    // A BL-DATA header of five bits, and the SDU behind it.
     let source: Vec<u8> = (0..325u32).map(|i| (i * 91 + 3) as u8).collect();
     let (mut a, mut b) = (vec![0u8; 336], BitBuffer::new(336 * 8));
     let mut src = BitBuffer::from_bytes(&source);
-    unsafe { leaf_copy(a.as_mut_ptr(), a.len(), AT, source.as_ptr(), source.len(), 0, BITS) };
-    b.seek(AT);
+    let pdu = bl_data::BlData { has_fcs: false, ns: 0 };
+    let written = unsafe { leaf_write(a.as_mut_ptr(), a.len(), source.as_ptr(), source.len(), 0, BITS) };
+    assert_eq!(written, (AT + BITS) as u64);
+    pdu.to_bitbuf(&mut b);
     b.copy_bits(&mut src, BITS);
     assert_eq!(a, b.clone().into_bytes());
     let ours = time(|| {
-        black_box(unsafe { leaf_copy(black_box(a.as_mut_ptr()), a.len(), AT, source.as_ptr(), source.len(), 0, BITS) });
+        black_box(unsafe { leaf_write(black_box(a.as_mut_ptr()), a.len(), source.as_ptr(), source.len(), 0, BITS) });
     });
     let rust = time(|| {
-        b.seek(AT);
+        b.seek(0);
         src.seek(0);
+        pdu.to_bitbuf(&mut b);
         b.copy_bits(black_box(&mut src), BITS);
     });
-    row("copying 2,595 bits to offset 5", ours, rust);
+    row("writing a header and copying 2,595 bits to offset 5", ours, rust);
 
     let whole = BitBuffer::from_bytes(&frame);
     for (at, len) in [(AT, BITS), (0, 32), (3, 31), (0, 0), (7, 100)] {

@@ -1,9 +1,14 @@
-// Shows the leaves at work: document 01's examples on slot time, and every mark on every receipt.
+// Shows the leaves at work: document 01's examples on slot time, frames and the check sequence, outside vectors, and every
+// mark on every receipt.
+mod frames;
 mod receipts;
+mod sums;
 mod text;
 mod times;
 
 fn main() {
     times::show();
+    sums::show();
+    frames::show();
     receipts::show();
 }

@@ -9,6 +9,11 @@ pub(crate) fn number(n: u64) {
     io::print_decimal(STDOUT_FILENO, n);
 }
 
+// A number by so many hexadecimal digits.
+pub(crate) fn hex(n: u64, digits: usize) {
+    io::print_hex(STDOUT_FILENO, n, digits);
+}
+
 // A number with its sign.
 pub(crate) fn signed(n: i32) {
     let wide = n as i64;
