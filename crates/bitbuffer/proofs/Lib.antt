@@ -1,11 +1,6 @@
 pub mod Bounds
-pub mod Copying
-pub mod Filling
 pub mod Growing
 pub mod Laws
 pub mod Peeking
-pub mod Powers
-pub mod Reading
 pub mod Signs
 pub mod Widths
-pub mod Writing

@@ -11,7 +11,7 @@ use crate::BitBuffer;
 use crate::Peeked;
 use crate::Read;
 use crate::Windowed;
-use crate::field::get;
+use bit_fields::get;
 
 impl BitBuffer {
     /// The next bits, as a number.

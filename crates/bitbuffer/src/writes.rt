@@ -12,11 +12,11 @@ use crate::BitBuffer;
 use crate::Copied;
 use crate::Windows;
 use crate::Written;
-use crate::field::copy;
-use crate::field::copy_bytes;
-use crate::field::fill;
-use crate::field::put;
 use crate::reach;
+use bit_fields::copy;
+use bit_fields::copy_bytes;
+use bit_fields::fill;
+use bit_fields::put;
 
 impl BitBuffer {
     /// Writes a value as up to 64 bits, which it fits, and moves the window past them.

@@ -6,7 +6,7 @@ use borrow.Author.Needs.{needs}
 use borrow.Author.Tests.{le-leb, lt-ltb, ne-eqb}
 use lib.Dec.{ltb, eqb}
 use Rattle.bits.proofs.Laws.{by-leb}
-use Rattle.bitbuffer.proofs.Powers.{one-shifted}
+use Rattle.bit_fields.proofs.Powers.{one-shifted}
 use Rattle.bitbuffer.proofs.writes.fits.Statement.{statement}
 use Rattle.bitbuffer.proofs.writes.fits.Tie as tie
 
