@@ -1,27 +1,15 @@
 -- Writes: "an expanding write that crosses the end moves the end by its whole width"; questions 5 and 8.
 use Prim.Native.Nat.{ℕ, _+_, _-_, _*_, _/_, _%_, _^_}
-use mathlib.Core.Bool.{Bool, true, false, cond, _&&_, _||_}
+use mathlib.Core.Bool.{Bool, false, cond, _&&_, _||_}
 use mathlib.Core.List.{List, [], _∷_, _++_}
 use lib.Dec.{leb, ltb}
 use lib.ListN.{length, replicate}
 use Rattle.bits.specs.Bits.{toBits, part, splice}
-use Rattle.questions.specs.Outcome.{Outcome, accepted, refused}
+use Rattle.questions.specs.Outcome.{accepted}
+use Rattle.questions.specs.Effect.{Effect, effect, asked}
 use Rattle.bitbuffer.specs.Window.{valid, reach, withPos}
 use Rattle.bitbuffer.specs.declared.BitBuffer.{BitBuffer}
 use Rattle.bitbuffer.specs.declared.Windows.{Windows}
-
--- What a write answers, and the lent bits after it.
-pub record Effect : Type 0 where
-  pub answer : Outcome BitBuffer
-  pub bits : List ℕ
-
-abbrev pub effect : Outcome BitBuffer → List ℕ → Effect
-effect o l = record { answer = o; bits = l }
-
--- One question, by its number, and then the rest: a no leaves the bits as they were.
-abbrev pub asked : ℕ → Bool → List ℕ → Effect → Effect
-asked n true l e = e
-asked n false l e = effect (refused n) l
 
 -- The end after a write of n bits: where it was, or n further if the write crosses it.
 abbrev pub endAfter : BitBuffer → ℕ → ℕ
@@ -36,7 +24,7 @@ abbrev pub room : BitBuffer → List ℕ → ℕ → Bool
 room w l e = leb e (w .end) || (w .«flag_autoexpand» && leb e (reach l))
 
 -- write_bits, and write_bit with n 1: "width up to 64, value fits?"
-abbrev pub written : BitBuffer → List ℕ → ℕ → ℕ → Effect
+abbrev pub written : BitBuffer → List ℕ → ℕ → ℕ → Effect BitBuffer
 written w l v n =
     asked 5 (valid w l) l
     (asked 5 (leb n 64 && ltb v (2 ^ n)) l
@@ -51,30 +39,19 @@ afterAll w [] = w
 afterAll w (n ∷ ns) = afterAll (after w n) ns
 
 -- Any number of bits vs: write_zeroes, write_ones, and copy_bits with the bits of its source.
-abbrev pub writtenAll : BitBuffer → List ℕ → List ℕ → Effect
+abbrev pub writtenAll : BitBuffer → List ℕ → List ℕ → Effect BitBuffer
 writtenAll w l vs =
     asked 5 (valid w l) l
     (asked 8 (room w l (afterAll w (widths (length vs)) .end)) l
     (effect (accepted (afterAll w (widths (length vs)))) (splice l (w .pos) vs)))
 
 -- copy_bits: n bits of the source, whose window is v over the bits s; both windows move past them.
-pub record Copy : Type 0 where
-  pub answer : Outcome Windows
-  pub bits : List ℕ
-
-abbrev pub copy : Outcome Windows → List ℕ → Copy
-copy o l = record { answer = o; bits = l }
-
-abbrev pub copyAsked : ℕ → Bool → List ℕ → Copy → Copy
-copyAsked n true l e = e
-copyAsked n false l e = copy (refused n) l
-
-abbrev pub copied : BitBuffer → List ℕ → BitBuffer → List ℕ → ℕ → Copy
+abbrev pub copied : BitBuffer → List ℕ → BitBuffer → List ℕ → ℕ → Effect Windows
 copied w l v s n =
-    copyAsked 5 (valid w l) l
-    (copyAsked 5 (valid v s && leb (v .pos + n) (v .end)) l
-    (copyAsked 8 (room w l (afterAll w (widths n) .end)) l
-    (copy
+    asked 5 (valid w l) l
+    (asked 5 (valid v s && leb (v .pos + n) (v .end)) l
+    (asked 8 (room w l (afterAll w (widths n) .end)) l
+    (effect
     (accepted (record { to = afterAll w (widths n); from = withPos v (v .pos + n) }))
     (splice l (w .pos) (part s (v .pos) n)))))
 
@@ -86,7 +63,7 @@ firstByte w = w .pos / 8
 abbrev pub byteCount : BitBuffer → ℕ
 byteCount w = (w .end + 7) / 8 - firstByte w
 
-abbrev pub copiedFromPos : BitBuffer → List ℕ → List ℕ → Effect
+abbrev pub copiedFromPos : BitBuffer → List ℕ → List ℕ → Effect BitBuffer
 copiedFromPos w l d =
     asked 5 (valid w l) d
     (asked 8 (leb (8 * byteCount w) (length d)) d

@@ -5,8 +5,9 @@ ghost use mathlib.Core.Bool.{true, _&&_};
 ghost use lib.Dec.{leb, ltb};
 ghost use lib.ListN.{length, replicate};
 ghost use Rattle.bits.specs.Bits.{bits};
+ghost use Rattle.questions.specs.Effect.{effect};
 ghost use Rattle.bitbuffer.specs.Window.{valid, reach as reachOf};
-ghost use Rattle.bitbuffer.specs.Writes.{effect, copy as copyEffect, room, widths, afterAll, written as writtenOf, writtenAll, copied as copiedOf, copiedFromPos};
+ghost use Rattle.bitbuffer.specs.Writes.{room, widths, afterAll, written as writtenOf, writtenAll, copied as copiedOf, copiedFromPos};
 ghost use Rattle.bitbuffer.specs.Answers.{written, copied};
 use crate::BitBuffer;
 use crate::Copied;
@@ -65,7 +66,7 @@ impl BitBuffer {
         src: &[u8],
         num_bits: usize,
     ) -> Copied
-        ensures { λ r. ⌜ copyEffect (copied r) (bits (now (bytes .exit))) ≡ copiedOf self (bits (now (bytes .entry))) source (bits (now (src .entry))) «num_bits» ⌝ }
+        ensures { λ r. ⌜ effect (copied r) (bits (now (bytes .exit))) ≡ copiedOf self (bits (now (bytes .entry))) source (bits (now (src .entry))) «num_bits» ⌝ }
     {
         if !self.is_valid(bytes) {
             return Copied::OutOfRange;

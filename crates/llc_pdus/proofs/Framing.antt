@@ -11,7 +11,8 @@ use Rattle.bits.specs.Bits.{value, part, splice, AllBits}
 use Rattle.bits.proofs.Laws.{length-part, splice-splice}
 use Rattle.questions.specs.Outcome.{accepted, refused}
 use Rattle.llc_pdus.specs.Headers.{bit, header}
-use Rattle.llc_pdus.specs.Writes.{longest, frame, effect, written}
+use Rattle.questions.specs.Effect.{effect}
+use Rattle.llc_pdus.specs.Writes.{longest, frame, written}
 use Rattle.llc_pdus.specs.declared.Pdu.{Pdu}
 use Rattle.llc_pdus.specs.declared.Pdu.the-variants.{BlAdata, BlData, BlUdata, BlAck}
 

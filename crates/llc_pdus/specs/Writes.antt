@@ -1,11 +1,12 @@
 -- A frame put together: the header, and the SDU behind it.
 use Prim.Native.Nat.{ℕ, _+_, _^_, _-_, min}
-use mathlib.Core.Bool.{Bool, true, false, _&&_}
+use mathlib.Core.Bool.{_&&_}
 use mathlib.Core.List.{List, _++_}
 use lib.Dec.{leb}
 use lib.ListN.{length}
 use Rattle.bits.specs.Bits.{part, splice}
-use Rattle.questions.specs.Outcome.{Outcome, accepted, refused}
+use Rattle.questions.specs.Outcome.{accepted}
+use Rattle.questions.specs.Effect.{Effect, effect, asked}
 use Rattle.llc_pdus.specs.Headers.{header}
 use Rattle.llc_pdus.specs.declared.Pdu.{Pdu}
 
@@ -17,22 +18,9 @@ longest = 2595
 abbrev pub frame : Pdu → List ℕ → ℕ → ℕ → List ℕ
 frame p s from n = header p ++ part s from n
 
--- What writing answers, the frame's length in bits where it is accepted, and the lent bits after it.
-pub record Effect : Type 0 where
-  pub answer : Outcome ℕ
-  pub bits : List ℕ
-
-abbrev pub effect : Outcome ℕ → List ℕ → Effect
-effect o l = record { answer = o; bits = l }
-
--- One question, by its number, and then the rest: a no leaves the bits as they were.
-abbrev pub asked : ℕ → Bool → List ℕ → Effect → Effect
-asked n true l e = e
-asked n false l e = effect (refused n) l
-
--- Writing to the front of the bits l: question 5 asks for the SDU's length and whether its bits lie in s, up to the last
+-- Writing to the front of the bits l, which answers the frame's length: question 5 asks for the SDU's length and whether its bits lie in s, up to the last
 -- place that a number of 64 bits can name; question 8 whether the frame fits.
-abbrev pub written : Pdu → List ℕ → List ℕ → ℕ → ℕ → Effect
+abbrev pub written : Pdu → List ℕ → List ℕ → ℕ → ℕ → Effect ℕ
 written p l s from n =
     asked 5 (leb n longest && leb (from + n) (min (length s) (2 ^ 64 - 1))) l
     (asked 8 (leb (length (header p) + n) (length l)) l

@@ -1,6 +1,7 @@
 use mathlib.Core.Path.{_∙_, sym, ap}
 use Rattle.llc_pdus.specs.Answers.{written as answered}
-use Rattle.llc_pdus.specs.Writes.{Effect}
+use Prim.Native.Nat.{ℕ}
+use Rattle.questions.specs.Effect.{Effect}
 use Rattle.llc_pdus.specs.declared.Written.{Written}
 use borrow.Author.Needs.{needs}
 use Rattle.leaf_exports.specs.Numbers.{sumOr}
@@ -24,8 +25,8 @@ same-length c = search needs
 
 returns : tie.Need-returns
 returns c = (
-  sym (ap (λ (r : Written). sumOr (answered r)) (c .before .n .given .1)) ∙ ap (λ (e : Effect). sumOr (e .answer)) (c .before .before .before .before .before .to-bitbuf .ensures),
-  ap (λ (e : Effect). e .bits) (c .before .before .before .before .before .to-bitbuf .ensures),
+  sym (ap (λ (r : Written). sumOr (answered r)) (c .before .n .given .1)) ∙ ap (λ (e : Effect ℕ). sumOr (e .answer)) (c .before .before .before .before .before .to-bitbuf .ensures),
+  ap (λ (e : Effect ℕ). e .bits) (c .before .before .before .before .before .to-bitbuf .ensures),
 )
 
 same-length-2 : tie.Need-same-length-2
@@ -33,8 +34,8 @@ same-length-2 c = search needs
 
 returns-2 : tie.Need-returns-2
 returns-2 c = (
-  sym (ap (λ (r : Written). sumOr (answered r)) (c .enum-told .given .1)) ∙ ap (λ (e : Effect). sumOr (e .answer)) (c .before .before .before .before .to-bitbuf .ensures),
-  ap (λ (e : Effect). e .bits) (c .before .before .before .before .to-bitbuf .ensures),
+  sym (ap (λ (r : Written). sumOr (answered r)) (c .enum-told .given .1)) ∙ ap (λ (e : Effect ℕ). sumOr (e .answer)) (c .before .before .before .before .to-bitbuf .ensures),
+  ap (λ (e : Effect ℕ). e .bits) (c .before .before .before .before .to-bitbuf .ensures),
 )
 
 same-length-3 : tie.Need-same-length-3
@@ -42,8 +43,8 @@ same-length-3 c = search needs
 
 returns-3 : tie.Need-returns-3
 returns-3 c = (
-  sym (ap (λ (r : Written). sumOr (answered r)) (c .enum-told2 .given .1)) ∙ ap (λ (e : Effect). sumOr (e .answer)) (c .before .before .before .before .to-bitbuf .ensures),
-  ap (λ (e : Effect). e .bits) (c .before .before .before .before .to-bitbuf .ensures),
+  sym (ap (λ (r : Written). sumOr (answered r)) (c .enum-told2 .given .1)) ∙ ap (λ (e : Effect ℕ). sumOr (e .answer)) (c .before .before .before .before .to-bitbuf .ensures),
+  ap (λ (e : Effect ℕ). e .bits) (c .before .before .before .before .to-bitbuf .ensures),
 )
 
 pub leaf-write-spec : {M : Type 1} → statement M

@@ -5,7 +5,7 @@ use borrow.Author.Needs.{needs}
 use Rattle.bits.specs.Bits.{bits}
 use Rattle.questions.specs.Outcome.{accepted}
 use Rattle.questions.proofs.Asked.{passed, failed}
-use Rattle.bitbuffer.specs.Writes.{effect}
+use Rattle.questions.specs.Effect.{effect}
 use Rattle.bitbuffer.specs.declared.BitBuffer.{BitBuffer}
 use Rattle.bitbuffer.proofs.Growing.{one-width, granted}
 use Rattle.bitbuffer.proofs.BitBuffer.write_bits.Statement.{statement}

@@ -4,7 +4,7 @@ use mathlib.Core.Bool.{false}
 use mathlib.Core.List.{List}
 use mathlib.Core.Path.{_∙_, ap, ap₂}
 use Rattle.bitbuffer.proofs.Laws.{written-inside}
-use Rattle.bitbuffer.specs.Writes.{Effect}
+use Rattle.questions.specs.Effect.{Effect}
 use Rattle.bitbuffer.specs.declared.BitBuffer.{BitBuffer}
 use Rattle.bits.proofs.Laws.{toBits-value, value-below}
 use Rattle.bits.specs.Bits.{toBits, bits, splice}
@@ -34,7 +34,7 @@ returns c =
     let w : BitBuffer = record { start = 0; pos = 0; end = a .size + a .len; «flag_autoexpand» = false } in
     let v : c .before .before .before .header-value .result < 2 ^ a .size =
     rw (c .before .before .before .header-value .ensures, size) (value-below (header p) (all-header p)) in
-    ap (λ (e : Effect). e .bits) (c .before .before .write-bits .ensures)
+    ap (λ (e : Effect BitBuffer). e .bits) (c .before .before .write-bits .ensures)
     ∙ written-inside w (bits (a .out .now)) (c .before .before .before .header-value .result) (a .size) (omega arith) (omega (arith, header-small p)) v (omega arith)
     ∙ ap (λ (t : List ℕ). splice (bits (a .out .now)) 0 t)
     (ap₂ toBits size (c .before .before .before .header-value .ensures) ∙ toBits-value (header p) (all-header p))

@@ -3,7 +3,8 @@ use native.Mathlib.Omega.{arith}
 use mathlib.Core.Bool.{false}
 use mathlib.Core.Path.{_∙_, ap}
 use Rattle.bitbuffer.proofs.Laws.{copied-inside}
-use Rattle.bitbuffer.specs.Writes.{Copy}
+use Rattle.questions.specs.Effect.{Effect}
+use Rattle.bitbuffer.specs.declared.Windows.{Windows}
 use Rattle.bitbuffer.specs.declared.BitBuffer.{BitBuffer}
 use Rattle.bits.specs.Bits.{bits}
 use borrow.Author.Needs.{needs}
@@ -27,7 +28,7 @@ returns c =
     let a = c .before .before .before .before .before .before .args in
     let w : BitBuffer = record { start = 0; pos = a .size; end = a .size + a .len; «flag_autoexpand» = false } in
     let v : BitBuffer = record { start = a .from; pos = a .from; end = a .from + a .len; «flag_autoexpand» = false } in
-    ap (λ (e : Copy). e .bits) (c .before .before .copy-bits .ensures)
+    ap (λ (e : Effect Windows). e .bits) (c .before .before .copy-bits .ensures)
     ∙ copied-inside w (bits (a .out .now)) v (bits (a .sdu .now)) (a .len) (omega arith) (omega arith) (omega arith) (omega arith)
 
 pub put-sdu-spec : {M : Type 1} → statement M

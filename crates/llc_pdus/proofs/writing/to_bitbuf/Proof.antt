@@ -9,7 +9,7 @@ use borrow.Author.Tests.{leb-true, leb-false}
 use lib.ListN.{length}
 use Rattle.questions.proofs.Asked.{passed, failed}
 use Rattle.questions.specs.Outcome.{accepted}
-use Rattle.llc_pdus.specs.Writes.{effect}
+use Rattle.questions.specs.Effect.{effect}
 use Rattle.llc_pdus.proofs.Framing.{header-small, too-long, no-source, no-room, has-room, in-two}
 use Rattle.llc_pdus.proofs.writing.to_bitbuf.Statement.{statement}
 use Rattle.llc_pdus.proofs.writing.to_bitbuf.Tie as tie
