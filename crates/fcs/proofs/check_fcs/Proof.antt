@@ -1,9 +1,12 @@
 use native.Mathlib.Omega.{arith}
-use mathlib.Core.Path.{_∙_, sym}
+use mathlib.Core.Path.{_≡_, _∙_, sym}
+use lib.Dec.{eqb}
 use borrow.Author.Needs.{needs}
 use borrow.Author.Tests.{lt-leb, eq-eqb, ne-eqb}
 use Rattle.bits.specs.Bits.{bits}
+use Rattle.questions.specs.Outcome.{accepted, ask}
 use Rattle.questions.proofs.Asked.{passed, failed}
+use Rattle.fcs.specs.Answers.{check}
 use Rattle.fcs.proofs.Computed.{in-range, compared}
 use Rattle.fcs.proofs.check_fcs.Statement.{statement}
 use Rattle.fcs.proofs.check_fcs.Tie as tie
@@ -32,27 +35,25 @@ word-at-requires c κs =
       in-range (args .part .now) (args .at) (args .len) (c .before .before .before .inside .ensures) (c .before .before .if1 .left),
     )
 
+-- Where the two sums have been read: the definition compares them.
+asked : (c : tie.After-word-at)
+    → let args = c .before .before .before .before .before .before .args in
+    check (bits (args .part .now)) (args .at) (args .len) ≡ ask 12 (eqb (c .before .sum-of .result) (c .word-at .result)) (accepted tt)
+asked c =
+    let before = c .before .before in
+    let args = before .before .before .before .before .args in
+    let sum = c .before .sum-of in
+    let word = c .word-at in
+    let h = passed (before .before .before .inside .ensures) (before .before .if1 .left) in
+    compared (bits (args .part .now)) (args .at) (args .len) (sum .result) (word .result) h (before .if2 .left) (sum .ensures) (word .ensures)
+
 returns-3 : tie.Need-returns-3
 returns-3 c =
-    let before = c .before .before .before in
-    let args = before .before .before .before .before .args in
-    let sum = c .before .before .sum-of in
-    let word = c .before .word-at in
-    let h = passed (before .before .before .inside .ensures) (before .before .if1 .left) in
-    sym
-    (compared (bits (args .part .now)) (args .at) (args .len) (sum .result) (word .result) h (before .if2 .left) (sum .ensures) (word .ensures)
-    ∙ rw (eq-eqb (sum .result) (word .result) (c .if3 .taken)))
+    sym (asked (c .before) ∙ rw (eq-eqb (c .before .before .sum-of .result) (c .before .word-at .result) (c .if3 .taken)))
 
 returns-4 : tie.Need-returns-4
 returns-4 c =
-    let before = c .before .before .before in
-    let args = before .before .before .before .before .args in
-    let sum = c .before .before .sum-of in
-    let word = c .before .word-at in
-    let h = passed (before .before .before .inside .ensures) (before .before .if1 .left) in
-    sym
-    (compared (bits (args .part .now)) (args .at) (args .len) (sum .result) (word .result) h (before .if2 .left) (sum .ensures) (word .ensures)
-    ∙ rw (ne-eqb (sum .result) (word .result) (c .if3 .left)))
+    sym (asked (c .before) ∙ rw (ne-eqb (c .before .before .sum-of .result) (c .before .word-at .result) (c .if3 .left)))
 
 pub check-fcs-spec : {M : Type 1} → statement M
 check-fcs-spec =
