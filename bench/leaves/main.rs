@@ -41,7 +41,8 @@ fn main() {
     println!("|---|---|---|---|");
 
     let mut buf = BitBuffer::from_bytes(&frame);
-    assert_eq!(unsafe { leaf_read(frame.as_ptr(), frame.len(), AT + BITS) }, AT as u64);
+    bl_data::BlData::from_bitbuf(&mut buf).unwrap();
+    assert_eq!(unsafe { leaf_read(frame.as_ptr(), frame.len(), AT + BITS) }, buf.get_pos() as u64);
     let ours = time(|| {
         black_box(unsafe { leaf_read(black_box(frame.as_ptr()), frame.len(), AT + BITS) });
     });

@@ -18,8 +18,8 @@ longest = 2595
 abbrev pub frame : Pdu → List ℕ → ℕ → ℕ → List ℕ
 frame p s from n = header p ++ part s from n
 
--- Writing to the front of the bits l, which answers the frame's length: question 5 asks for the SDU's length and whether its bits lie in s, up to the last
--- place that a number of 64 bits can name; question 8 whether the frame fits.
+-- Writing to the front of the bits l, which answers the frame's length: question 5 asks for the SDU's length and whether its
+-- bits lie in s, up to the last place that a number of 64 bits can name; question 8 whether the frame fits.
 abbrev pub written : Pdu → List ℕ → List ℕ → ℕ → ℕ → Effect ℕ
 written p l s from n =
     asked 5 (leb n longest && leb (from + n) (min (length s) (2 ^ 64 - 1))) l
