@@ -1,0 +1,45 @@
+-- Demand 3, on the link as lists: for every list of calls from the new link, if none was refused for a taken receipt or a full
+-- table (6, 7, 8, 13), each address has seen exactly what the one-address rule gives on its past alone.
+use Prim.Native.Nat.{ℕ}
+use mathlib.Core.Path.{_≡_}
+use mathlib.Core.Bool.{Bool, true, not, _&&_}
+use mathlib.Core.List.{List, [], _∷_, map}
+use Rattle.questions.specs.Outcome.{number}
+use Rattle.llc_rule.specs.Lists.{all, among}
+use Rattle.llc_rule.specs.Records.{Record}
+use Rattle.llc_rule.specs.Link.{Link, new}
+use Rattle.llc_rule.specs.Rule.{Own, atFirst, rule}
+use Rattle.llc_rule.specs.Runs.{Exchange, left, given, run, after}
+use Rattle.llc_rule.specs.Past.{nobody, past, strays, holdersAfter, Sight, sight, Held, heldBy, takenFrom}
+
+-- What the rule gives on a list of calls: a number and records for each, and what it keeps after them.
+unfoldable pub ruleSights : Own → List (List ℕ) → List Sight
+ruleSights o [] = []
+ruleSights o (c ∷ cs) =
+    record { number = number (rule o c); records = given (rule o c) } ∷ ruleSights (left o (rule o c)) cs
+
+unfoldable pub ruleAfter : Own → List (List ℕ) → Own
+ruleAfter o [] = o
+ruleAfter o (c ∷ cs) = ruleAfter (left o (rule o c)) cs
+
+-- The calls of a past.
+abbrev pub calls : List Exchange → List (List ℕ)
+calls es = map (λ (e : Exchange). e .call) es
+
+-- Was no call refused for a taken receipt (6) or a full table (7, 8, 13)?
+unfoldable pub unhindered : List Exchange → Bool
+unhindered es = all (λ (e : Exchange). not (among (e .number) (6 ∷ 7 ∷ 8 ∷ 13 ∷ []))) es
+
+-- What demand 3 says of an address a and a run of calls cs from the new link.
+pub record SeesItsOwnPast (cs : List (List ℕ)) (a : ℕ) : Type 0 where
+  -- Each call of its past gave the number and the records that the rule gives.
+  pub seen : map (sight a) (past a nobody (run new cs)) ≡ ruleSights atFirst (calls (past a nobody (run new cs)))
+  -- It holds the receipts that the rule keeps, with their marks.
+  pub receipts :
+      heldBy a (holdersAfter nobody (run new cs)) 0 (after new cs .receipts)
+      ≡ takenFrom 0 (ruleAfter atFirst (calls (past a nobody (run new cs))) .receipts)
+  -- "No other call gives a record with its SSI."
+  pub alone : strays a nobody (run new cs) ≡ []
+
+pub record Demand3 : Type 1 where
+  pub each : (cs : List (List ℕ)) → unhindered (run new cs) ≡ true → (a : ℕ) → SeesItsOwnPast cs a

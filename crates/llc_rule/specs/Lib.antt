@@ -1,0 +1,14 @@
+pub mod Lists
+pub mod Calls
+pub mod Records
+pub mod Ranges
+pub mod Received
+pub mod Messages
+pub mod Link
+pub mod Step
+pub mod Rule
+pub mod Runs
+pub mod Past
+pub mod Claim
+pub mod Sound
+pub mod Sendings

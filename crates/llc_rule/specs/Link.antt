@@ -1,0 +1,111 @@
+-- The link as lists: one queue of acknowledged messages, one of unacknowledged ones, due acknowledgements, receipts and rows,
+-- shared by all addresses.
+use Prim.Native.Nat.{ℕ}
+use mathlib.Core.Bool.{Bool, true, false, cond}
+use mathlib.Core.List.{List, [], _∷_}
+use lib.Dec.{eqb}
+use lib.ListN.{replicate}
+use Rattle.tdma_time.specs.Slots.{first}
+use Rattle.tdma_time.specs.declared.TdmaTime.{TdmaTime}
+use Rattle.llc_rule.specs.Records.{Record, Sent}
+use Rattle.llc_rule.specs.Messages.{Message, Due, Place, free}
+
+-- An address row: the bit that its next acknowledged message takes as N(S).
+pub record Row : Type 0 where
+  pub ssi : ℕ
+  pub bit : Bool
+
+pub record Link : Type 0 where
+  pub started : Bool
+  pub carrier : ℕ
+  pub t251 : ℕ
+  pub time : TdmaTime
+  pub acknowledged : List Message
+  pub unacknowledged : List Sent
+  pub due : List Due
+  pub receipts : List Place
+  pub rows : List Row
+
+-- The link after a call that was accepted, and the records that the call gives.
+pub record Done (S : Type 0) : Type 0 where
+  pub state : S
+  pub records : List Record
+
+abbrev pub done : {S : Type 0} → S → List Record → Done S
+done s rs = record { state = s; records = rs }
+
+-- 128 receipts, all free.
+unfoldable pub noReceipts : List Place
+noReceipts = replicate 128 free
+
+-- "The library's new state, which is empty and not started."
+unfoldable pub new : Link
+new =
+    record {
+      started = false;
+      carrier = 0;
+      t251 = 0;
+      time = first;
+      acknowledged = [];
+      unacknowledged = [];
+      due = [];
+      receipts = noReceipts;
+      rows = [];
+    }
+
+-- "Start empties everything and sets carrier and T251." "From a start to the next 22 the time is h 0, m 1, f 1, t 1."
+unfoldable pub startedWith : ℕ → ℕ → Link
+startedWith carrier t251 =
+    record {
+      started = true;
+      carrier = carrier;
+      t251 = t251;
+      time = first;
+      acknowledged = [];
+      unacknowledged = [];
+      due = [];
+      receipts = noReceipts;
+      rows = [];
+    }
+
+-- The link at another time, and with other queues and receipts.
+abbrev pub withTime : Link → TdmaTime → Link
+withTime l t =
+    record {
+      started = l .started;
+      carrier = l .carrier;
+      t251 = l .t251;
+      time = t;
+      acknowledged = l .acknowledged;
+      unacknowledged = l .unacknowledged;
+      due = l .due;
+      receipts = l .receipts;
+      rows = l .rows;
+    }
+
+abbrev pub withQueues : Link → List Message → List Sent → List Due → List Place → List Row → Link
+withQueues l ms us ds ps rs =
+    record {
+      started = l .started;
+      carrier = l .carrier;
+      t251 = l .t251;
+      time = l .time;
+      acknowledged = ms;
+      unacknowledged = us;
+      due = ds;
+      receipts = ps;
+      rows = rs;
+    }
+
+abbrev pub withReceipts : Link → List Place → Link
+withReceipts l ps = withQueues l (l .acknowledged) (l .unacknowledged) (l .due) ps (l .rows)
+
+-- The bit of an address: "first 0".
+unfoldable pub bitOf : ℕ → List Row → Bool
+bitOf a [] = false
+bitOf a (r ∷ rs) = cond (eqb (r .ssi) a) (r .bit) (bitOf a rs)
+
+-- The rows with another bit for an address, in a row behind the others if it had none.
+unfoldable pub withBit : ℕ → Bool → List Row → List Row
+withBit a b [] = record { ssi = a; bit = b } ∷ []
+withBit a b (r ∷ rs) = cond (eqb (r .ssi) a) (record { ssi = a; bit = b } ∷ rs) (r ∷ withBit a b rs)

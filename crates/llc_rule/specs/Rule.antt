@@ -1,0 +1,297 @@
+-- Document 01, "One-address rule": what one address sees, from the calls of its past alone. Sentence by sentence, over the lists
+-- of this address only; apart from specs/Step.antt.
+use Prim.Native.Nat.{ℕ, suc}
+use mathlib.Core.Bool.{Bool, true, false, cond, not, _&&_, _||_, Bool·beq}
+use mathlib.Core.List.{List, [], _∷_, _++_, map}
+use mathlib.Core.Option.{Option, none, some}
+use lib.Dec.{eqb, ltb}
+use lib.ListN.{set}
+use Rattle.questions.specs.Outcome.{Outcome, accepted, refused, ask}
+use Rattle.tdma_time.specs.Slots as Slots
+use Rattle.tdma_time.specs.declared.TdmaTime.{TdmaTime}
+use Rattle.tx_receipt.specs.States.{is, final}
+use Rattle.tx_receipt.specs.declared.TxState.the-variants.{Pending, Discarded, Transmitted, Lost, Acknowledged}
+use Rattle.llc_pdus.specs.declared.Pdu.{Pdu}
+use Rattle.llc_pdus.specs.declared.Pdu.the-variants.{BlAdata, BlData, BlUdata, BlAck}
+use Rattle.llc_rule.specs.Lists.{any, Found, nothing, first, find, others, Visit, walk}
+use Rattle.llc_rule.specs.Calls.{Call, start, tickStart, tickEnd, dataRequest, unitdataRequest, frame, report, release, Request, Frame, callOf}
+use Rattle.llc_rule.specs.Ranges.{steals, wantsFcs, inRange}
+use Rattle.llc_rule.specs.Records.{Record, acknowledged, unacknowledged, Sent}
+use Rattle.llc_rule.specs.Received.{Received, received, nsOf, nrOf, upward}
+use Rattle.llc_rule.specs.Messages.{Message, waiting, submittedAfter, doneAt, hasTime, overdue, Due, slotBefore, replyTo, Place, free, placeAt, pending, taken?, mark, reported, carrierOf, sentOf}
+use Rattle.llc_rule.specs.Link.{Done, done, noReceipts}
+
+-- "The rule keeps whether it is started, main carrier, T251, time, the row's bit, acknowledged and unacknowledged messages and
+-- due acknowledgements in order, and receipts with marks."
+pub record Own : Type 0 where
+  pub started : Bool
+  pub carrier : ℕ
+  pub t251 : ℕ
+  pub time : TdmaTime
+  pub bit : Bool
+  pub acknowledged : List Message
+  pub unacknowledged : List Sent
+  pub due : List Due
+  pub receipts : List Place
+
+-- "At first it is not started and empty."
+unfoldable pub atFirst : Own
+atFirst =
+    record {
+      started = false;
+      carrier = 0;
+      t251 = 0;
+      time = Slots.first;
+      bit = false;
+      acknowledged = [];
+      unacknowledged = [];
+      due = [];
+      receipts = noReceipts;
+    }
+
+-- "Start empties everything and sets carrier and T251."
+unfoldable pub afterStart : ℕ → ℕ → Own
+afterStart carrier t251 =
+    record {
+      started = true;
+      carrier = carrier;
+      t251 = t251;
+      time = Slots.first;
+      bit = false;
+      acknowledged = [];
+      unacknowledged = [];
+      due = [];
+      receipts = noReceipts;
+    }
+
+-- "Tick start sets the time."
+abbrev pub afterTick : TdmaTime → Own → Own
+afterTick t o =
+    record {
+      started = o .started;
+      carrier = o .carrier;
+      t251 = o .t251;
+      time = t;
+      bit = o .bit;
+      acknowledged = o .acknowledged;
+      unacknowledged = o .unacknowledged;
+      due = o .due;
+      receipts = o .receipts;
+    }
+
+abbrev pub keeping : Own → Bool → List Message → List Sent → List Due → List Place → Own
+keeping o b ms us ds ps =
+    record {
+      started = o .started;
+      carrier = o .carrier;
+      t251 = o .t251;
+      time = o .time;
+      bit = b;
+      acknowledged = ms;
+      unacknowledged = us;
+      due = ds;
+      receipts = ps;
+    }
+
+-- "An acknowledgement due on that SSI and carrier", the oldest.
+unfoldable pub dueOn : ℕ → Own → Found Due
+dueOn carrier o = find (λ (d : Due). eqb (d .carrier) carrier) (o .due)
+
+-- What a data request makes of itself: a message of one of the two kinds, and whether it uses up the acknowledgement.
+pub data Made : Type 0 where
+  unacknowledgedly : ℕ → Pdu → Bool → Made
+  acknowledgedly : Pdu → Made
+
+-- "Stealing, and an acknowledgement due on that SSI and carrier: BL-ACK with the oldest such N(R), which it uses up, the
+-- request's link id. Else stealing or group: BL-UDATA without FCS flag, link id 0. Else BL-ADATA if one is due there, the
+-- oldest, which it uses up, or BL-DATA; link id 0; N(S) is the row's bit."
+abbrev pub madeOf : Request → Bool → Bool → Bool → Found Due → Made
+madeOf r ns true group (first d ds) = unacknowledgedly (r .link) (BlAck (wantsFcs r) (d .nr)) true
+madeOf r ns true group nothing = unacknowledgedly 0 (BlUdata false) false
+madeOf r ns false true found = unacknowledgedly 0 (BlUdata false) false
+madeOf r ns false false (first d ds) = acknowledgedly (BlAdata (wantsFcs r) (d .nr) ns)
+madeOf r ns false false nothing = acknowledgedly (BlData (wantsFcs r) ns)
+
+-- "A request takes its receipt as Pending and puts its message last."
+unfoldable pub requested : Request → Own → Found Due → Made → Own
+requested r o found (acknowledgedly p) =
+    keeping o
+    (not (o .bit))
+    (o .acknowledged ++ (waiting (sentOf r (carrierOf (o .carrier) r) 0 p) (o .bit) ∷ []))
+    (o .unacknowledged)
+    (others found (o .due))
+    (set (o .receipts) (r .receipt) (pending true))
+requested r o found (unacknowledgedly link p uses) =
+    keeping o
+    (o .bit)
+    (o .acknowledged)
+    (o .unacknowledged ++ (sentOf r (carrierOf (o .carrier) r) link p ∷ []))
+    (cond uses (others found (o .due)) (o .due))
+    (set (o .receipts) (r .receipt) (pending false))
+
+unfoldable pub afterData : Request → Own → Own
+afterData r o =
+    requested r o (dueOn (carrierOf (o .carrier) r) o)
+    (madeOf r (o .bit) (steals r) (not (eqb (r .type) 1)) (dueOn (carrierOf (o .carrier) r) o))
+
+-- "Unitdata request: BL-UDATA, its FCS flag again not set, its own link id."
+unfoldable pub afterUnitdata : Request → Own → Own
+afterUnitdata r o = requested r o nothing (unacknowledgedly (r .link) (BlUdata false) false)
+
+-- "A message without a done time whose receipt is Discarded or at least Transmitted gets done time now."
+abbrev pub noted : TdmaTime → List Place → Message → Message
+noted time ps m = cond (not (hasTime (m .done)) && taken? reported (placeAt ps (m .sent .receipt))) (doneAt time m) m
+
+-- "If now less done is T251 or more it is resent, or after three resends leaves: Transmitted becomes Lost, Discarded stays."
+-- "A submission sets the receipt Pending, clears the done time and repeats the same bits."
+abbrev pub onTime : TdmaTime → ℕ → List Place → Message → Option TdmaTime → Visit (List Place) Message Record
+onTime time t251 ps m none = record { state = ps; stays = m ∷ []; out = [] }
+onTime time t251 ps m (some t) =
+    cond (overdue time t251 t)
+    (cond (ltb (m .resends) 3)
+    (record {
+      state = mark Pending (m .sent .receipt) ps;
+      stays = submittedAfter (suc (m .resends)) m ∷ [];
+      out = acknowledged (m .sent) ∷ [];
+    })
+    (record {
+      state = cond (taken? (is Transmitted) (placeAt ps (m .sent .receipt))) (mark Lost (m .sent .receipt) ps) ps;
+      stays = [];
+      out = [];
+    }))
+    (record { state = ps; stays = m ∷ []; out = [] })
+
+unfoldable pub looked : TdmaTime → ℕ → List Place → Message → Visit (List Place) Message Record
+looked time t251 ps m = onTime time t251 ps (noted time ps m) (noted time ps m .done)
+
+-- "Then, if none is under way, the oldest waiting one is submitted."
+abbrev pub underWay : List Message → Bool
+underWay ms = any (λ (m : Message). m .submitted) ms
+
+abbrev pub submitOldest : List Place → List Message → Visit (List Place) Message Record
+submitOldest ps [] = record { state = ps; stays = []; out = [] }
+submitOldest ps (m ∷ ms) =
+    record {
+      state = mark Pending (m .sent .receipt) ps;
+      stays = submittedAfter (m .resends) m ∷ ms;
+      out = acknowledged (m .sent) ∷ [];
+    }
+
+unfoldable pub submitted : List Place → List Message → Visit (List Place) Message Record
+submitted ps ms = cond (underWay ms) (record { state = ps; stays = ms; out = [] }) (submitOldest ps ms)
+
+unfoldable pub resent : Own → Visit (List Place) Message Record
+resent o = walk (looked (o .time) (o .t251)) (o .receipts) (o .acknowledged)
+
+unfoldable pub sentFirst : Own → Visit (List Place) Message Record
+sentFirst o = submitted (resent o .state) (resent o .stays)
+
+-- "Then due acknowledgements go out, then unacknowledged messages."
+unfoldable pub atTickEnd : Own → Done Own
+atTickEnd o =
+    done
+    (keeping o (o .bit) (sentFirst o .stays) [] [] (sentFirst o .state))
+    (resent o .out ++ (sentFirst o .out ++ (map replyTo (o .due) ++ map unacknowledged (o .unacknowledged))))
+
+-- "N(S) makes an acknowledgement due, its slot two before now."
+abbrev pub madeDue : Frame → Option Bool → Own → List Due
+madeDue f none o = o .due
+madeDue f (some ns) o =
+    o .due
+    ++ (record { ssi = f .ssi; type = f .type; carrier = f .carrier; nr = ns; slot = slotBefore (o .time) } ∷ [])
+
+-- The message under way, and the others.
+unfoldable pub theOne : Own → Found Message
+theOne o = find (λ (m : Message). m .submitted) (o .acknowledged)
+
+-- "N(R) finishes the message under way .. if its carrier agrees, it has a done time and N(S) equals N(R)."
+abbrev pub finishes : Frame → Bool → Message → Bool
+finishes f nr m = eqb (m .sent .carrier) (f .carrier) && (hasTime (m .done) && Bool·beq (m .ns) nr)
+
+-- "14. If N(R) would finish a message, is its receipt Transmitted?"
+abbrev pub oneTransmitted : Frame → Bool → Found Message → Own → Bool
+oneTransmitted f nr nothing o = true
+oneTransmitted f nr (first m ms) o =
+    not (finishes f nr m) || taken? (is Transmitted) (placeAt (o .receipts) (m .sent .receipt))
+
+abbrev pub canFinish : Frame → Option Bool → Own → Bool
+canFinish f none o = true
+canFinish f (some nr) o = oneTransmitted f nr (theOne o) o
+
+-- It is finished "as Acknowledged", or "it stays".
+abbrev pub finished : Frame → Bool → Found Message → List Due → Own → Own
+finished f nr nothing ds o = keeping o (o .bit) (o .acknowledged) (o .unacknowledged) ds (o .receipts)
+finished f nr (first m ms) ds o =
+    cond (finishes f nr m)
+    (keeping o (o .bit) ms (o .unacknowledged) ds (mark Acknowledged (m .sent .receipt) (o .receipts)))
+    (keeping o (o .bit) (o .acknowledged) (o .unacknowledged) ds (o .receipts))
+
+abbrev pub heard : Frame → Option Bool → List Due → Own → Own
+heard f none ds o = keeping o (o .bit) (o .acknowledged) (o .unacknowledged) ds (o .receipts)
+heard f (some nr) ds o = finished f nr (theOne o) ds o
+
+unfoldable pub afterReceived : Frame → Outcome Received → Own → Outcome (Done Own)
+afterReceived f (refused n) o = refused n
+afterReceived f (accepted r) o =
+    ask 14 (canFinish f (nrOf (r .header)) o)
+    (accepted (done (heard f (nrOf (r .header)) (madeDue f (nsOf (r .header)) o) o) (upward f (r .header) (r .sdu))))
+
+unfoldable pub afterFrame : Frame → Own → Outcome (Done Own)
+afterFrame f o = afterReceived f (received (f .pdu)) o
+
+-- "15. Report: is the receipt Pending and its message submitted?" One that is no longer held was submitted.
+unfoldable pub stillWaits : ℕ → Own → Bool
+stillWaits i o =
+    any (λ (m : Message). eqb (m .sent .receipt) i && not (m .submitted)) (o .acknowledged)
+    || any (λ (s : Sent). eqb (s .receipt) i) (o .unacknowledged)
+
+unfoldable pub afterReport : ℕ → ℕ → Own → Outcome (Done Own)
+afterReport i how o =
+    ask 15 (taken? (is Pending) (placeAt (o .receipts) i) && not (stillWaits i o))
+    (accepted
+    (done
+    (keeping o (o .bit) (o .acknowledged) (o .unacknowledged) (o .due)
+    (cond (eqb how 1) (mark Transmitted i (o .receipts)) (mark Discarded i (o .receipts))))
+    []))
+
+-- "16. Release: is the receipt taken, its message no longer held, and final?" "A release frees it."
+unfoldable pub stillHeld : ℕ → Own → Bool
+stillHeld i o =
+    any (λ (m : Message). eqb (m .sent .receipt) i) (o .acknowledged)
+    || any (λ (s : Sent). eqb (s .receipt) i) (o .unacknowledged)
+
+unfoldable pub afterRelease : ℕ → Own → Outcome (Done Own)
+afterRelease i o =
+    ask 16 (taken? final (placeAt (o .receipts) i) && not (stillHeld i o))
+    (accepted
+    (done (keeping o (o .bit) (o .acknowledged) (o .unacknowledged) (o .due) (set (o .receipts) i free)) []))
+
+-- "4. Started, or is this a start?"
+abbrev pub mayCome : Call → Own → Bool
+mayCome (start carrier t251) o = true
+mayCome (tickStart time) o = o .started
+mayCome tickEnd o = o .started
+mayCome (dataRequest r) o = o .started
+mayCome (unitdataRequest r) o = o .started
+mayCome (frame f) o = o .started
+mayCome (report receipt how) o = o .started
+mayCome (release receipt) o = o .started
+
+unfoldable pub does : Call → Own → Outcome (Done Own)
+does (start carrier t251) o = accepted (done (afterStart carrier t251) [])
+does (tickStart time) o = accepted (done (afterTick time o) [])
+does tickEnd o = accepted (atTickEnd o)
+does (dataRequest r) o = accepted (done (afterData r o) [])
+does (unitdataRequest r) o = accepted (done (afterUnitdata r o) [])
+does (frame f) o = afterFrame f o
+does (report receipt how) o = afterReport receipt how o
+does (release receipt) o = afterRelease receipt o
+
+-- "The questions below save 1, 6, 7, 8 and 13 are put to what the rule keeps. A no gives the number, no record and no change;
+-- else the number is 0."
+unfoldable pub judged : Own → Outcome Call → Outcome (Done Own)
+judged o (refused n) = refused n
+judged o (accepted c) = ask 4 (mayCome c o) (ask 5 (inRange c) (does c o))
+
+unfoldable pub rule : Own → List ℕ → Outcome (Done Own)
+rule o bytes = judged o (callOf bytes)

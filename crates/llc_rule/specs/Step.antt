@@ -1,0 +1,276 @@
+-- One call on the link: questions 4 to 16 in their order, and what an accepted call does. In the order of the Rust's queue.
+use Prim.Native.Nat.{ℕ, suc}
+use mathlib.Core.Bool.{Bool, true, false, cond, not, _&&_, _||_, Bool·beq}
+use mathlib.Core.List.{List, [], _∷_, _++_, map}
+use mathlib.Core.Option.{Option, none, some}
+use lib.Dec.{eqb, leb, ltb}
+use lib.ListN.{length, set}
+use Rattle.questions.specs.Outcome.{Outcome, accepted, refused, ask}
+use Rattle.tdma_time.specs.declared.TdmaTime.{TdmaTime}
+use Rattle.tx_receipt.specs.States.{is, final}
+use Rattle.tx_receipt.specs.declared.TxState.the-variants.{Pending, Discarded, Transmitted, Lost, Acknowledged}
+use Rattle.llc_pdus.specs.declared.Pdu.{Pdu}
+use Rattle.llc_pdus.specs.declared.Pdu.the-variants.{BlAdata, BlData, BlUdata, BlAck}
+use Rattle.llc_rule.specs.Lists.{any, among, Found, nothing, first, find, others, Visit, walk}
+use Rattle.llc_rule.specs.Calls.{Call, start, tickStart, tickEnd, dataRequest, unitdataRequest, frame, report, release, Request, Frame, callOf}
+use Rattle.llc_rule.specs.Ranges.{steals, wantsFcs, inRange}
+use Rattle.llc_rule.specs.Records.{Record, acknowledged, unacknowledged, Sent}
+use Rattle.llc_rule.specs.Received.{Received, received, nsOf, nrOf, upward}
+use Rattle.llc_rule.specs.Messages.{Message, waiting, submittedAfter, doneAt, hasTime, overdue, Due, slotBefore, replyTo, Place, free, taken, placeAt, isFree, pending, taken?, marked, mark, reported, carrierOf, sentOf}
+use Rattle.llc_rule.specs.Link.{Link, Row, Done, done, startedWith, withTime, withQueues, withReceipts, bitOf, withBit}
+
+-- Requests ----------------------------------------------------------------------------------------------------------------
+
+-- The acknowledgement due on the SSI and carrier of a request: the oldest, and the others.
+unfoldable pub dueFor : Request → Link → Found Due
+dueFor r l = find (λ (d : Due). eqb (d .ssi) (r .ssi) && eqb (d .carrier) (carrierOf (l .carrier) r)) (l .due)
+
+-- "Acknowledged path": an individual data request that does not steal.
+abbrev pub onAcknowledgedPath : Request → Bool
+onAcknowledgedPath r = eqb (r .type) 1 && not (steals r)
+
+-- "6. Request: is its receipt free?"
+abbrev pub receiptFree : Request → Link → Bool
+receiptFree r l = isFree (placeAt (l .receipts) (r .receipt))
+
+-- "7. Acknowledged path: has its SSI a row, or is a row free?" Of 256.
+unfoldable pub rowFor : Request → Link → Bool
+rowFor r l = any (λ (w : Row). eqb (w .ssi) (r .ssi)) (l .rows) || ltb (length (l .rows)) 256
+
+-- "8. Is there a place in its queue?" 64 acknowledged messages, 32 unacknowledged.
+abbrev pub acknowledgedPlace : Link → Bool
+acknowledgedPlace l = ltb (length (l .acknowledged)) 64
+
+abbrev pub unacknowledgedPlace : Link → Bool
+unacknowledgedPlace l = ltb (length (l .unacknowledged)) 32
+
+-- BL-ADATA with the N(R) of a due acknowledgement, or BL-DATA.
+abbrev pub dataPdu : Request → Bool → Found Due → Pdu
+dataPdu r ns (first d ds) = BlAdata (wantsFcs r) (d .nr) ns
+dataPdu r ns nothing = BlData (wantsFcs r) ns
+
+-- An acknowledged message put last: N(S) is the row's bit, which flips; a due acknowledgement is used up.
+unfoldable pub withAcknowledged : Request → Link → Link
+withAcknowledged r l =
+    let ns = bitOf (r .ssi) (l .rows) in
+    withQueues l
+    (l .acknowledged ++ (waiting (sentOf r (carrierOf (l .carrier) r) 0 (dataPdu r ns (dueFor r l))) ns ∷ []))
+    (l .unacknowledged)
+    (others (dueFor r l) (l .due))
+    (set (l .receipts) (r .receipt) (pending true))
+    (withBit (r .ssi) (not ns) (l .rows))
+
+-- An unacknowledged message put last, with a link id and behind a header, and the due acknowledgements that are left.
+unfoldable pub withUnacknowledged : Request → ℕ → Pdu → List Due → Link → Link
+withUnacknowledged r link p ds l =
+    withQueues l
+    (l .acknowledged)
+    (l .unacknowledged ++ (sentOf r (carrierOf (l .carrier) r) link p ∷ []))
+    ds
+    (set (l .receipts) (r .receipt) (pending false))
+    (l .rows)
+
+-- A data request that steals and finds an acknowledgement due is a BL-ACK, any other off the acknowledged path a BL-UDATA.
+unfoldable pub withStolen : Request → Link → Found Due → Link
+withStolen r l (first d ds) = withUnacknowledged r (r .link) (BlAck (wantsFcs r) (d .nr)) ds l
+withStolen r l nothing = withUnacknowledged r 0 (BlUdata false) (l .due) l
+
+unfoldable pub onData : Request → Link → Outcome (Done Link)
+onData r l =
+    ask 6 (receiptFree r l)
+    (cond (onAcknowledgedPath r)
+    (ask 7 (rowFor r l) (ask 8 (acknowledgedPlace l) (accepted (done (withAcknowledged r l) []))))
+    (ask 8 (unacknowledgedPlace l)
+    (accepted (done (cond (steals r) (withStolen r l (dueFor r l)) (withStolen r l nothing)) []))))
+
+unfoldable pub onUnitdata : Request → Link → Outcome (Done Link)
+onUnitdata r l =
+    ask 6 (receiptFree r l)
+    (ask 8 (unacknowledgedPlace l) (accepted (done (withUnacknowledged r (r .link) (BlUdata false) (l .due) l) [])))
+
+-- Frames ------------------------------------------------------------------------------------------------------------------
+
+-- "13. With N(S): under 64 acknowledgements due?"
+abbrev pub dueRoom : Option Bool → Link → Bool
+dueRoom none l = true
+dueRoom (some ns) l = ltb (length (l .due)) 64
+
+-- "N(S) makes an acknowledgement due, its slot two before now."
+abbrev pub withDue : Frame → Option Bool → Link → List Due
+withDue f none l = l .due
+withDue f (some ns) l =
+    l .due
+    ++ (record { ssi = f .ssi; type = f .type; carrier = f .carrier; nr = ns; slot = slotBefore (l .time) } ∷ [])
+
+-- The submitted message of an SSI on a carrier, and the others.
+unfoldable pub awaiting : Frame → Link → Found Message
+awaiting f l =
+    find
+    (λ (m : Message). eqb (m .sent .ssi) (f .ssi) && (eqb (m .sent .carrier) (f .carrier) && m .submitted))
+    (l .acknowledged)
+
+-- "It has a done time and N(S) equals N(R)."
+abbrev pub fits : Bool → Message → Bool
+fits nr m = hasTime (m .done) && Bool·beq (m .ns) nr
+
+-- "14. If N(R) would finish a message, is its receipt Transmitted?"
+abbrev pub finishable : Bool → Found Message → Link → Bool
+finishable nr nothing l = true
+finishable nr (first m ms) l = not (fits nr m) || taken? (is Transmitted) (placeAt (l .receipts) (m .sent .receipt))
+
+abbrev pub mayFinish : Frame → Option Bool → Link → Bool
+mayFinish f none l = true
+mayFinish f (some nr) l = finishable nr (awaiting f l) l
+
+-- "N(R) finishes the message under way as Acknowledged"; one that does not fit moves it to the front of the shared queue; on
+-- another carrier it stays in its place.
+unfoldable pub answeredBy : Bool → Found Message → Link → Link
+answeredBy nr nothing l = l
+answeredBy nr (first m ms) l =
+    cond (fits nr m)
+    (withQueues l ms (l .unacknowledged) (l .due) (mark Acknowledged (m .sent .receipt) (l .receipts)) (l .rows))
+    (withQueues l (m ∷ ms) (l .unacknowledged) (l .due) (l .receipts) (l .rows))
+
+abbrev pub answered : Frame → Option Bool → Link → Link
+answered f none l = l
+answered f (some nr) l = answeredBy nr (awaiting f l) l
+
+abbrev pub dueNow : Link → List Due → Link
+dueNow l ds = withQueues l (l .acknowledged) (l .unacknowledged) ds (l .receipts) (l .rows)
+
+unfoldable pub onReceived : Frame → Outcome Received → Link → Outcome (Done Link)
+onReceived f (refused n) l = refused n
+onReceived f (accepted r) l =
+    ask 13 (dueRoom (nsOf (r .header)) l)
+    (ask 14 (mayFinish f (nrOf (r .header)) l)
+    (accepted
+    (done (answered f (nrOf (r .header)) (dueNow l (withDue f (nsOf (r .header)) l))) (upward f (r .header) (r .sdu)))))
+
+unfoldable pub onFrame : Frame → Link → Outcome (Done Link)
+onFrame f l = onReceived f (received (f .pdu)) l
+
+-- Reports and releases ----------------------------------------------------------------------------------------------------
+
+-- Does a message that is held have the receipt, and one that waits?
+unfoldable pub held : ℕ → Link → Bool
+held i l =
+    any (λ (m : Message). eqb (m .sent .receipt) i) (l .acknowledged)
+    || any (λ (s : Sent). eqb (s .receipt) i) (l .unacknowledged)
+
+unfoldable pub waits : ℕ → Link → Bool
+waits i l =
+    any (λ (m : Message). eqb (m .sent .receipt) i && not (m .submitted)) (l .acknowledged)
+    || any (λ (s : Sent). eqb (s .receipt) i) (l .unacknowledged)
+
+-- "15. Report: is the receipt Pending and its message submitted?"
+abbrev pub reportable : ℕ → Link → Bool
+reportable i l = taken? (is Pending) (placeAt (l .receipts) i) && not (waits i l)
+
+-- "A report marks its receipt as it says": 1 transmitted, 2 discarded.
+unfoldable pub onReport : ℕ → ℕ → Link → Outcome (Done Link)
+onReport i how l =
+    ask 15 (reportable i l)
+    (accepted (done (withReceipts l (cond (eqb how 1) (mark Transmitted i (l .receipts)) (mark Discarded i (l .receipts)))) []))
+
+-- "16. Release: is the receipt taken, its message no longer held, and final?"
+abbrev pub releasable : ℕ → Link → Bool
+releasable i l = taken? final (placeAt (l .receipts) i) && not (held i l)
+
+unfoldable pub onRelease : ℕ → Link → Outcome (Done Link)
+onRelease i l = ask 16 (releasable i l) (accepted (done (withReceipts l (set (l .receipts) i free)) []))
+
+-- Tick end: "four passes as in tick_end: resends, first sendings, replies, unacknowledged messages" ------------------------
+
+abbrev pub stay : {S : Type 0} → S → Message → Visit S Message Record
+stay s m = record { state = s; stays = m ∷ []; out = [] }
+
+-- A message without a done time whose receipt was reported gets done time now.
+abbrev pub timed : TdmaTime → List Place → Message → Message
+timed time ps m = cond (not (hasTime (m .done)) && taken? reported (placeAt ps (m .sent .receipt))) (doneAt time m) m
+
+-- It is handed down again, or after three resends leaves: Transmitted becomes Lost, Discarded stays.
+abbrev pub resend : List Place → Message → Visit (List Place) Message Record
+resend ps m =
+    record {
+      state = mark Pending (m .sent .receipt) ps;
+      stays = submittedAfter (suc (m .resends)) m ∷ [];
+      out = acknowledged (m .sent) ∷ [];
+    }
+
+abbrev pub leave : List Place → Message → Visit (List Place) Message Record
+leave ps m =
+    record {
+      state = cond (taken? (is Transmitted) (placeAt ps (m .sent .receipt))) (mark Lost (m .sent .receipt) ps) ps;
+      stays = [];
+      out = [];
+    }
+
+abbrev pub agedBy : TdmaTime → ℕ → List Place → Message → Option TdmaTime → Visit (List Place) Message Record
+agedBy time t251 ps m none = stay ps m
+agedBy time t251 ps m (some t) =
+    cond (overdue time t251 t) (cond (ltb (m .resends) 3) (resend ps m) (leave ps m)) (stay ps m)
+
+unfoldable pub retransmission : TdmaTime → ℕ → List Place → Message → Visit (List Place) Message Record
+retransmission time t251 ps m = agedBy time t251 ps (timed time ps m) (timed time ps m .done)
+
+-- First sendings: the receipts, and the SSIs that have a message under way.
+pub record Sending : Type 0 where
+  pub receipts : List Place
+  pub blocked : List ℕ
+
+unfoldable pub firstSending : Sending → Message → Visit Sending Message Record
+firstSending s m =
+    cond (m .submitted)
+    (stay (record { receipts = s .receipts; blocked = m .sent .ssi ∷ s .blocked }) m)
+    (cond (among (m .sent .ssi) (s .blocked))
+    (stay s m)
+    (record {
+      state =
+          record { receipts = mark Pending (m .sent .receipt) (s .receipts); blocked = m .sent .ssi ∷ s .blocked };
+      stays = submittedAfter (m .resends) m ∷ [];
+      out = acknowledged (m .sent) ∷ [];
+    }))
+
+unfoldable pub retransmissions : Link → Visit (List Place) Message Record
+retransmissions l = walk (retransmission (l .time) (l .t251)) (l .receipts) (l .acknowledged)
+
+unfoldable pub firstSendings : Link → Visit Sending Message Record
+firstSendings l =
+    walk firstSending (record { receipts = retransmissions l .state; blocked = [] }) (retransmissions l .stays)
+
+unfoldable pub onTickEnd : Link → Done Link
+onTickEnd l =
+    done
+    (withQueues l (firstSendings l .stays) [] [] (firstSendings l .state .receipts) (l .rows))
+    (retransmissions l .out ++ (firstSendings l .out ++ (map replyTo (l .due) ++ map unacknowledged (l .unacknowledged))))
+
+-- A call --------------------------------------------------------------------------------------------------------------------
+
+abbrev pub isStart : Call → Bool
+isStart (start carrier t251) = true
+isStart (tickStart time) = false
+isStart tickEnd = false
+isStart (dataRequest r) = false
+isStart (unitdataRequest r) = false
+isStart (frame f) = false
+isStart (report receipt how) = false
+isStart (release receipt) = false
+
+unfoldable pub act : Call → Link → Outcome (Done Link)
+act (start carrier t251) l = accepted (done (startedWith carrier t251) [])
+act (tickStart time) l = accepted (done (withTime l time) [])
+act tickEnd l = accepted (onTickEnd l)
+act (dataRequest r) l = onData r l
+act (unitdataRequest r) l = onUnitdata r l
+act (frame f) l = onFrame f l
+act (report receipt how) l = onReport receipt how l
+act (release receipt) l = onRelease receipt l
+
+-- "4. Started, or is this a start?", question 5, and then what the call is asked and does.
+unfoldable pub called : Link → Outcome Call → Outcome (Done Link)
+called l (refused n) = refused n
+called l (accepted c) = ask 4 (isStart c || l .started) (ask 5 (inRange c) (act c l))
+
+-- A call of any bytes: a number, or the link after it and its records.
+unfoldable pub step : Link → List ℕ → Outcome (Done Link)
+step l bytes = called l (callOf bytes)
