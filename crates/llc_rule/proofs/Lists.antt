@@ -1,14 +1,14 @@
 -- Laws of the queues.
-use Prim.Native.Nat.{ℕ, zero, suc, _+_, _≤_, _<_}
+use Prim.Native.Nat.{ℕ, _≤_, _<_}
 use native.Mathlib.Omega.{arith}
-use mathlib.Core.Path.{_≡_, _∙_, refl, sym, ap, subst}
-use mathlib.Core.Bool.{Bool, true, false, cond, not, _&&_, _||_, false≢true, true≢false}
-use mathlib.Core.List.{List, [], _∷_, _++_, append-assoc}
-use borrow.Author.Tests.{eqb-true, eqb-false, eq-eqb, ne-eqb, ltb-true, ltb-false}
-use lib.Dec.{eqb, ltb}
-use lib.ListN.{length, getD, set, length-append}
-use lib.Seq.{getD-set-same, getD-set-other, set-out}
-use Rattle.llc_rule.specs.Lists.{keep, any, all, Found, nothing, first, behind, find, others}
+use mathlib.Core.Path.{_≡_, _∙_, refl, sym, ap}
+use mathlib.Core.Bool.{Bool, true, false, cond, _&&_, _||_, false≢true, true≢false}
+use mathlib.Core.List.{List, [], _∷_, _++_}
+use borrow.Author.Tests.{eqb-true, eqb-false}
+use lib.Dec.{eqb}
+use lib.ListN.{length, getD, set}
+use lib.Seq.{getD-set-same, getD-set-other}
+use Rattle.llc_rule.specs.Lists.{keep, any, Found, nothing, first, behind, find}
 use Rattle.llc_rule.specs.Sound.{All}
 
 -- What holds where a test passes and where it fails holds.
@@ -26,6 +26,36 @@ neither {x = false} {y} h = (refl, h)
 
 pub clash : {G : Type 0} {b : Bool} → b ≡ true → b ≡ false → G
 clash t f = absurd (true≢false (sym t ∙ f))
+
+-- A choice whose test is known. (`rw` by a test that is a field of a value would take the value apart.)
+pub if-true : {A : Type 0} {b : Bool} (x y : A) → b ≡ true → cond b x y ≡ x
+if-true x y e = rw e
+
+pub if-false : {A : Type 0} {b : Bool} (x y : A) → b ≡ false → cond b x y ≡ y
+if-false x y e = rw e
+
+-- What holds of either choice, where its test comes out so, holds of the choice; a function of it is the choice of its values.
+pub by-choice :
+    {A : Type 0} (P : A → Type 0) (b : Bool) {x y : A}
+    → (b ≡ true → P x)
+    → (b ≡ false → P y)
+    → P (cond b x y)
+by-choice P true f g = f refl
+by-choice P false f g = g refl
+
+pub either : {A : Type 0} (P : A → Type 0) (b : Bool) {x y : A} → P x → P y → P (cond b x y)
+either P b p q = by-choice P b (λ t. p) (λ t. q)
+
+pub ap-cond : {A B : Type 0} (f : A → B) (b : Bool) (x y : A) → f (cond b x y) ≡ cond b (f x) (f y)
+ap-cond f true x y = refl
+ap-cond f false x y = refl
+
+pub and-true : {x y : Bool} → x ≡ true → y ≡ true → x && y ≡ true
+and-true e f = rw (e, f)
+
+pub and-false : (x : Bool) {y : Bool} → y ≡ false → x && y ≡ false
+and-false true f = f
+and-false false f = refl
 
 module _ {A : Type 0} where
   pub keep-yes : (p : A → Bool) (x : A) (xs : List A) → p x ≡ true → keep p (x ∷ xs) ≡ x ∷ keep p xs

@@ -1,16 +1,19 @@
 -- Demand 3, on the link as lists: for every list of calls from the new link, if none was refused for a taken receipt or a full
 -- table (6, 7, 8, 13), each address has seen exactly what the one-address rule gives on its past alone.
-use Prim.Native.Nat.{ℕ}
+use Prim.Native.Nat.{ℕ, _≤_}
 use mathlib.Core.Path.{_≡_}
-use mathlib.Core.Bool.{Bool, true, not, _&&_}
-use mathlib.Core.List.{List, [], _∷_, map}
+use mathlib.Core.Bool.{Bool, true, false, not}
+use mathlib.Core.List.{List, [], _∷_, _++_, map}
+use lib.Dec.{eqb}
+use lib.ListN.{length}
 use Rattle.questions.specs.Outcome.{number}
-use Rattle.llc_rule.specs.Lists.{all, among}
-use Rattle.llc_rule.specs.Records.{Record}
-use Rattle.llc_rule.specs.Link.{Link, new}
+use Rattle.llc_rule.specs.Lists.{keep, all, among}
+use Rattle.llc_rule.specs.Messages.{Message}
+use Rattle.llc_rule.specs.Link.{new}
 use Rattle.llc_rule.specs.Rule.{Own, atFirst, rule}
 use Rattle.llc_rule.specs.Runs.{Exchange, left, given, run, after}
-use Rattle.llc_rule.specs.Past.{nobody, past, strays, holdersAfter, Sight, sight, Held, heldBy, takenFrom}
+use Rattle.llc_rule.specs.Past.{nobody, Whose, belongsTo, whose, past, strays, holdersAfter, Sight, sight, heldBy, takenFrom}
+use Rattle.llc_rule.specs.Sound.{ofAddress}
 
 -- What the rule gives on a list of calls: a number and records for each, and what it keeps after them.
 unfoldable pub ruleSights : Own → List (List ℕ) → List Sight
@@ -41,5 +44,42 @@ pub record SeesItsOwnPast (cs : List (List ℕ)) (a : ℕ) : Type 0 where
   -- "No other call gives a record with its SSI."
   pub alone : strays a nobody (run new cs) ≡ []
 
-pub record Demand3 : Type 1 where
+pub record Demand3 : Type 0 where
   pub each : (cs : List (List ℕ)) → unhindered (run new cs) ≡ true → (a : ℕ) → SeesItsOwnPast cs a
+
+-- "So two neighbouring calls about different addresses, neither of them a tick or a start, may change places, if that makes no
+-- such refusal, and no address sees a difference." What an address a sees of one list of calls, it sees of another.
+pub record SeesTheSame (a : ℕ) (cs ds : List (List ℕ)) : Type 0 where
+  pub sameCalls : calls (past a nobody (run new cs)) ≡ calls (past a nobody (run new ds))
+  pub sameSights : map (sight a) (past a nobody (run new cs)) ≡ map (sight a) (past a nobody (run new ds))
+  pub sameReceipts :
+      heldBy a (holdersAfter nobody (run new cs)) 0 (after new cs .receipts)
+      ≡ heldBy a (holdersAfter nobody (run new ds)) 0 (after new ds .receipts)
+
+-- Whose a call is after other calls.
+abbrev pub whoseAfter : List (List ℕ) → List ℕ → Whose
+whoseAfter cs c = whose (holdersAfter nobody (run new cs)) c
+
+pub record Swap : Type 0 where
+  pub each :
+      (before : List (List ℕ)) (c d : List ℕ) (later : List (List ℕ)) (s t : ℕ)
+      → whoseAfter before c ≡ belongsTo s
+      → whoseAfter (before ++ (c ∷ [])) d ≡ belongsTo t
+      → eqb s t ≡ false
+      → unhindered (run new (before ++ (c ∷ d ∷ later))) ≡ true
+      → unhindered (run new (before ++ (d ∷ c ∷ later))) ≡ true
+      → (a : ℕ)
+      → SeesTheSame a (before ++ (c ∷ d ∷ later)) (before ++ (d ∷ c ∷ later))
+
+-- "By that rule an address has at most one acknowledged message under way", after every list of calls: those that the rule
+-- keeps, and on the link, whatever was refused.
+abbrev pub underWay : List Message → ℕ
+underWay ms = length (keep (λ (m : Message). m .submitted) ms)
+
+pub record OneUnderWay : Type 0 where
+  pub byRule :
+      (cs : List (List ℕ))
+      → unhindered (run new cs) ≡ true
+      → (a : ℕ)
+      → underWay (ruleAfter atFirst (calls (past a nobody (run new cs))) .acknowledged) ≤ 1
+  pub onLink : (cs : List (List ℕ)) (a : ℕ) → underWay (ofAddress a (after new cs .acknowledged)) ≤ 1

@@ -4,6 +4,7 @@ pub mod Records
 pub mod Ranges
 pub mod Received
 pub mod Messages
+pub mod Done
 pub mod Link
 pub mod Step
 pub mod Rule
@@ -12,3 +13,4 @@ pub mod Past
 pub mod Claim
 pub mod Sound
 pub mod Sendings
+pub mod Sizes

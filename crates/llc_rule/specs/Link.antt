@@ -4,11 +4,10 @@ use Prim.Native.Nat.{ℕ}
 use mathlib.Core.Bool.{Bool, true, false, cond}
 use mathlib.Core.List.{List, [], _∷_}
 use lib.Dec.{eqb}
-use lib.ListN.{replicate}
 use Rattle.tdma_time.specs.Slots.{first}
 use Rattle.tdma_time.specs.declared.TdmaTime.{TdmaTime}
-use Rattle.llc_rule.specs.Records.{Record, Sent}
-use Rattle.llc_rule.specs.Messages.{Message, Due, Place, free}
+use Rattle.llc_rule.specs.Records.{Sent}
+use Rattle.llc_rule.specs.Messages.{Message, Due, Place, noReceipts}
 
 -- An address row: the bit that its next acknowledged message takes as N(S).
 pub record Row : Type 0 where
@@ -25,18 +24,6 @@ pub record Link : Type 0 where
   pub due : List Due
   pub receipts : List Place
   pub rows : List Row
-
--- The link after a call that was accepted, and the records that the call gives.
-pub record Done (S : Type 0) : Type 0 where
-  pub state : S
-  pub records : List Record
-
-abbrev pub done : {S : Type 0} → S → List Record → Done S
-done s rs = record { state = s; records = rs }
-
--- 128 receipts, all free.
-unfoldable pub noReceipts : List Place
-noReceipts = replicate 128 free
 
 -- "The library's new state, which is empty and not started."
 unfoldable pub new : Link

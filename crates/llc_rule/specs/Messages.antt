@@ -1,17 +1,17 @@
 -- What the link and the one-address rule both keep: messages, due acknowledgements and receipts.
-use Prim.Native.Nat.{ℕ, _-_, _+_, _^_}
+use Prim.Native.Nat.{ℕ, _-_, _^_}
 use mathlib.Core.Bool.{Bool, true, false, cond, _&&_, _||_}
-use mathlib.Core.List.{List, [], _∷_, _++_}
+use mathlib.Core.List.{List, _++_}
 use mathlib.Core.Option.{Option, none, some}
 use lib.Dec.{eqb, leb}
 use lib.IntN.{ℤ, pos, negsuc}
-use lib.ListN.{getD, set}
+use lib.ListN.{getD, set, replicate}
 use Rattle.tdma_time.specs.Slots.{plus, minus}
 use Rattle.tdma_time.specs.declared.TdmaTime.{TdmaTime}
 use Rattle.tx_receipt.specs.States.{is, atLeast}
 use Rattle.tx_receipt.specs.Marks.{at}
 use Rattle.tx_receipt.specs.declared.TxState.{TxState}
-use Rattle.tx_receipt.specs.declared.TxState.the-variants.{Pending, Discarded, Transmitted, Lost, Acknowledged}
+use Rattle.tx_receipt.specs.declared.TxState.the-variants.{Pending, Discarded, Transmitted}
 use Rattle.tx_receipt.specs.declared.TxReceipt.{TxReceipt}
 use Rattle.llc_pdus.specs.Headers.{header}
 use Rattle.llc_pdus.specs.declared.Pdu.{Pdu}
@@ -86,6 +86,10 @@ replyTo d =
 pub data Place : Type 0 where
   free : Place
   taken : TxReceipt → Place
+
+-- 128 receipts, all free.
+unfoldable pub noReceipts : List Place
+noReceipts = replicate 128 free
 
 abbrev pub placeAt : List Place → ℕ → Place
 placeAt l i = getD l i free

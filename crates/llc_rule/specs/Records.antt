@@ -1,6 +1,6 @@
 -- Document 01, "Calls and records", the records: the kinds 1 to 5 with their fields, and their bytes.
 use Prim.Native.Nat.{ℕ, zero, suc, _+_, _/_}
-use mathlib.Core.Bool.{Bool, true, false}
+use mathlib.Core.Bool.{Bool}
 use mathlib.Core.List.{List, [], _∷_, _++_}
 use mathlib.Core.Option.{Option, none, some}
 use lib.ListN.{length, take, drop, replicate}

@@ -18,8 +18,8 @@ use Rattle.llc_rule.specs.Calls.{Call, start, tickStart, tickEnd, dataRe
 use Rattle.llc_rule.specs.Ranges.{steals, wantsFcs, inRange}
 use Rattle.llc_rule.specs.Records.{Record, acknowledged, unacknowledged, Sent}
 use Rattle.llc_rule.specs.Received.{Received, received, nsOf, nrOf, upward}
-use Rattle.llc_rule.specs.Messages.{Message, waiting, submittedAfter, doneAt, hasTime, overdue, Due, slotBefore, replyTo, Place, free, placeAt, pending, taken?, mark, reported, carrierOf, sentOf}
-use Rattle.llc_rule.specs.Link.{Done, done, noReceipts}
+use Rattle.llc_rule.specs.Messages.{Message, waiting, submittedAfter, doneAt, hasTime, overdue, Due, slotBefore, replyTo, Place, free, placeAt, pending, taken?, mark, reported, carrierOf, sentOf, noReceipts}
+use Rattle.llc_rule.specs.Done.{Done, done}
 
 -- "The rule keeps whether it is started, main carrier, T251, time, the row's bit, acknowledged and unacknowledged messages and
 -- due acknowledgements in order, and receipts with marks."

@@ -3,7 +3,8 @@ use Prim.Native.Nat.{ℕ}
 use mathlib.Core.List.{List, [], _∷_}
 use Rattle.questions.specs.Outcome.{Outcome, accepted, refused, number}
 use Rattle.llc_rule.specs.Records.{Record}
-use Rattle.llc_rule.specs.Link.{Link, Done}
+use Rattle.llc_rule.specs.Done.{Done}
+use Rattle.llc_rule.specs.Link.{Link}
 use Rattle.llc_rule.specs.Step.{step}
 
 -- What an outcome leaves, and the records that it gives: "a no gives the number; state .. as before".

@@ -7,24 +7,26 @@ use mathlib.Core.Option.{Option, none, some}
 use lib.Dec.{eqb}
 use lib.ListN.{length}
 use Rattle.questions.specs.Outcome.{Outcome, accepted, refused, number}
-use Rattle.llc_rule.specs.Calls.{Call, start, tickStart, tickEnd, dataRequest, unitdataRequest, frame, report, release, callOf}
+use Rattle.llc_pdus.specs.declared.Pdu.{Pdu}
+use Rattle.llc_rule.specs.Calls.{Call, start, tickStart, tickEnd, dataRequest, unitdataRequest, frame, report, release, Request, callOf}
 use Rattle.llc_rule.specs.Records.{Record, acknowledged, reply, unacknowledged, dataUp, unitdataUp, Sent}
-use Rattle.llc_rule.specs.Link.{Link, new}
+use Rattle.llc_rule.specs.Messages.{sentOf}
+use Rattle.llc_rule.specs.Link.{new}
 use Rattle.llc_rule.specs.Step.{step}
 use Rattle.llc_rule.specs.Runs.{Exchange, left, run, after}
 use Rattle.llc_rule.specs.Sound.{All}
 
--- The receipt that a call takes if it is accepted.
-abbrev pub takes : Outcome Call → Option ℕ
-takes (refused n) = none
-takes (accepted (start carrier t251)) = none
-takes (accepted (tickStart time)) = none
-takes (accepted tickEnd) = none
-takes (accepted (dataRequest r)) = some (r .receipt)
-takes (accepted (unitdataRequest r)) = some (r .receipt)
-takes (accepted (frame f)) = none
-takes (accepted (report receipt how)) = none
-takes (accepted (release receipt)) = none
+-- The request that a call is.
+abbrev pub requestOf : Outcome Call → Option Request
+requestOf (refused n) = none
+requestOf (accepted (start carrier t251)) = none
+requestOf (accepted (tickStart time)) = none
+requestOf (accepted tickEnd) = none
+requestOf (accepted (dataRequest r)) = some r
+requestOf (accepted (unitdataRequest r)) = some r
+requestOf (accepted (frame f)) = none
+requestOf (accepted (report receipt how)) = none
+requestOf (accepted (release receipt)) = none
 
 -- Does a call end the holding of receipt i if it is accepted? A start does, and its release.
 abbrev pub ends : ℕ → Outcome Call → Bool
@@ -53,16 +55,18 @@ sendings i [] = []
 sendings i (e ∷ es) =
     cond (eqb (e .number) 0 && ends i (callOf (e .call))) [] (handed i (e .records) ++ sendings i es)
 
--- At most four, all the same.
-pub record AtMostFour (ss : List Sent) : Type 0 where
+-- At most four, and all the same: the request's message on one carrier, with one link id, behind one header.
+pub record AtMostFour (r : Request) (ss : List Sent) : Type 0 where
   pub few : length ss ≤ 4
-  pub one : Sent
-  pub same : All (λ (s : Sent). s ≡ one) ss
+  pub carrier : ℕ
+  pub link : ℕ
+  pub header : Pdu
+  pub same : All (λ (s : Sent). s ≡ sentOf r carrier link header) ss
 
 -- Of every request that is accepted, after any calls and before any calls.
 pub record HandedDown : Type 0 where
   pub each :
-      (before : List (List ℕ)) (c : List ℕ) (i : ℕ) (later : List (List ℕ))
+      (before : List (List ℕ)) (c : List ℕ) (r : Request) (later : List (List ℕ))
       → number (step (after new before) c) ≡ 0
-      → takes (callOf c) ≡ some i
-      → AtMostFour (sendings i (run (left (after new before) (step (after new before) c)) later))
+      → requestOf (callOf c) ≡ some r
+      → AtMostFour r (sendings (r .receipt) (run (left (after new before) (step (after new before) c)) later))

@@ -6,7 +6,6 @@ use mathlib.Core.List.{List, [], _∷_}
 use mathlib.Core.Option.{Option, none, some}
 use lib.Dec.{eqb}
 use lib.ListN.{length}
-use Rattle.tdma_time.specs.declared.TdmaTime.{TdmaTime}
 use Rattle.tx_receipt.specs.States.{is}
 use Rattle.tx_receipt.specs.declared.TxState.the-variants.{Pending}
 use Rattle.llc_rule.specs.Lists.{keep, any}

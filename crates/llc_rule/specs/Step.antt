@@ -3,7 +3,7 @@ use Prim.Native.Nat.{ℕ, suc}
 use mathlib.Core.Bool.{Bool, true, false, cond, not, _&&_, _||_, Bool·beq}
 use mathlib.Core.List.{List, [], _∷_, _++_, map}
 use mathlib.Core.Option.{Option, none, some}
-use lib.Dec.{eqb, leb, ltb}
+use lib.Dec.{eqb, ltb}
 use lib.ListN.{length, set}
 use Rattle.questions.specs.Outcome.{Outcome, accepted, refused, ask}
 use Rattle.tdma_time.specs.declared.TdmaTime.{TdmaTime}
@@ -16,8 +16,9 @@ use Rattle.llc_rule.specs.Calls.{Call, start, tickStart, tickEnd, dataRe
 use Rattle.llc_rule.specs.Ranges.{steals, wantsFcs, inRange}
 use Rattle.llc_rule.specs.Records.{Record, acknowledged, unacknowledged, Sent}
 use Rattle.llc_rule.specs.Received.{Received, received, nsOf, nrOf, upward}
-use Rattle.llc_rule.specs.Messages.{Message, waiting, submittedAfter, doneAt, hasTime, overdue, Due, slotBefore, replyTo, Place, free, taken, placeAt, isFree, pending, taken?, marked, mark, reported, carrierOf, sentOf}
-use Rattle.llc_rule.specs.Link.{Link, Row, Done, done, startedWith, withTime, withQueues, withReceipts, bitOf, withBit}
+use Rattle.llc_rule.specs.Messages.{Message, waiting, submittedAfter, doneAt, hasTime, overdue, Due, slotBefore, replyTo, Place, free, taken, placeAt, isFree, pending, taken?, mark, reported, carrierOf, sentOf}
+use Rattle.llc_rule.specs.Done.{Done, done}
+use Rattle.llc_rule.specs.Link.{Link, Row, startedWith, withTime, withQueues, withReceipts, bitOf, withBit}
 
 -- Requests ----------------------------------------------------------------------------------------------------------------
 

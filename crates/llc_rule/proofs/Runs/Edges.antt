@@ -1,0 +1,181 @@
+-- The edges of the limits: the last that is taken and the first that is not.
+use Prim.Native.Nat.{ℕ, zero, suc}
+use mathlib.Core.Path.{_≡_, refl}
+use mathlib.Core.Bool.{false, true}
+use mathlib.Core.List.{List, [], _∷_, _++_}
+use lib.ListN.{replicate}
+use Rattle.llc_rule.specs.Link.{Link, Row, new, startedWith, withQueues}
+use Rattle.llc_rule.specs.Messages.{noReceipts}
+use Rattle.llc_rule.proofs.Runs.{Told, hex, _gets_, _with_, _and_, request, requests, agrees}
+
+-- SDU of 2,595 and 2,596 bits, in both requests.
+pub sdus : List Told
+sdus =
+    hex 7 0x21000405fa0004 gets 0
+    ∷ (hex 28 0x24015e0003e901000000000000000000000000000000000001000a24 ++ replicate 324 0xff ++ hex 1 0xf0) gets 5
+    ∷ (hex 28 0x24015e0003e901000000000000000000000000000000000001000a23 ++ replicate 324 0xff ++ hex 1 0xe0) gets 0
+    ∷ (hex 28 0x25015e0003e901000000000000000000000000000000000002000a24 ++ replicate 324 0xff ++ hex 1 0xf0) gets 5
+    ∷ (hex 28 0x25015e0003e901000000000000000000000000000000000002000a23 ++ replicate 324 0xff ++ hex 1 0xe0) gets 0
+    ∷ hex 3 0x230000 gets 0
+    and (hex 57 0x010001010200030003e90300010104000205fa050004000000000600040000000007000400000000080001000a0001010b00000c01470a2817
+    ++ replicate 324 0xff)
+    and (hex 57 0x010001030200030003e90300010104000205fa050004000000000600040000000007000400000000080001000a0001020b00000c01470a272f
+    ++ replicate 323 0xff
+    ++ hex 1 0xfe)
+    ∷ []
+
+pub sdus-agrees : agrees new sdus ≡ true
+unfolding agrees sdus
+sdus-agrees = refl
+
+-- Age T251 - 1, T251 and -1.
+pub age : List Told
+age =
+    hex 7 0x21000405fa0004 gets 0
+    ∷ hex 28 0x2400190003e901000000000000000000000000000000000001000000 gets 0
+    ∷ hex 3 0x230000 gets 0
+    and hex 57 0x010001010200030003e90300010104000205fa050004000000000600040000000007000400000000080001000a0001010b00000c0003000510
+    ∷ hex 5 0x2700020101 gets 0
+    ∷ hex 3 0x230000 gets 0
+    ∷ hex 8 0x2200050000010104 gets 0
+    ∷ hex 3 0x230000 gets 0
+    ∷ hex 8 0x2200050000010201 gets 0
+    ∷ hex 3 0x230000 gets 0
+    and hex 57 0x010001010200030003e90300010104000205fa050004000000000600040000000007000400000000080001000a0001010b00000c0003000510
+    ∷ hex 5 0x2700020101 gets 0
+    ∷ hex 3 0x230000 gets 0
+    ∷ hex 8 0x2200050000010104 gets 0
+    ∷ hex 3 0x230000 gets 0
+    and hex 57 0x010001010200030003e90300010104000205fa050004000000000600040000000007000400000000080001000a0001010b00000c0003000510
+    ∷ []
+
+pub age-agrees : agrees new age ≡ true
+unfolding agrees age
+age-agrees = refl
+
+-- Message 64 and 65; a place that is freed serves again.
+pub messages : List Told
+messages =
+    hex 7 0x21000405fa0004 gets 0
+    ∷ requests 64 0
+    ++ request 64 gets 8
+    ∷ hex 3 0x230000 gets 0
+    and hex 57 0x010001010200030003e90300010104000205fa050004000000000600040000000007000400000000080001000a0001000b00000c0003000510
+    ∷ hex 5 0x2700020001 gets 0
+    ∷ hex 3 0x230000 gets 0
+    ∷ request 64 gets 8
+    ∷ hex 21 0x2600120003e90105fa000000000000000000000530 gets 0
+    ∷ request 64 gets 0
+    ∷ request 65 gets 8
+    ∷ hex 3 0x230000 gets 0
+    and hex 57 0x010001010200030003e90300010104000205fa050004000000000600040000000007000400000000080001000a0001010b00000c0003000518
+    ∷ []
+
+pub messages-agrees : agrees new messages ≡ true
+unfolding agrees messages requests
+messages-agrees = refl
+
+-- n unitdata requests with the receipts from i on, and what they hand down.
+abbrev pub unitdataRequest : ℕ → List ℕ
+unitdataRequest i = hex 24 0x2500190003e9010000000000000000000000000000000000 ++ (i ∷ hex 3 0x000000)
+
+unfoldable pub unitdataRequests : ℕ → ℕ → List Told
+unitdataRequests zero i = []
+unitdataRequests (suc n) i = unitdataRequest i gets 0 ∷ unitdataRequests n (suc i)
+
+unfoldable pub unitdatas : ℕ → ℕ → List (List ℕ)
+unitdatas zero i = []
+unitdatas (suc n) i =
+    (hex 47 0x010001030200030003e90300010104000205fa050004000000000600040000000007000400000000080001000a0001
+    ++ (i ∷ hex 9 0x0b00000c0003000420))
+    ∷ unitdatas n (suc i)
+
+-- Unacknowledged message 32 and 33, also of a stealing and of a group request; each queue has its own places.
+pub unacknowledged : List Told
+unacknowledged =
+    hex 7 0x21000405fa0004 gets 0
+    ∷ hex 8 0x2200050000010103 gets 0
+    ∷ hex 21 0x2600120003e90105fa000000000000000000000518 gets 0
+    and hex 35 0x010001040200030003e90300010105000400000000060004000000000b00000d000100
+    ∷ unitdataRequests 32 0
+    ++ unitdataRequest 32 gets 8
+    ∷ hex 28 0x2400190003e901000000000000000000000000000000010020000000 gets 8
+    ∷ hex 28 0x2400190003e902000000000000000000000000000000000020000000 gets 8
+    ∷ hex 28 0x2400190003ea01000000000000000000000000000000000020000000 gets 0
+    ∷ hex 3 0x230000 gets 0
+    and hex 57 0x010001010200030003ea0300010104000205fa050004000000000600040000000007000400000000080001000a0001200b00000c0003000510
+    and hex 50 0x010001020200030003e90300010104000205fa050004000000000600040000000007000400000000080001000c0003000538
+    with unitdatas 32 0
+    ∷ unitdataRequest 33 gets 0
+    ∷ []
+
+pub unacknowledged-agrees : agrees new unacknowledged ≡ true
+unfolding agrees unacknowledged unitdataRequests unitdatas
+unacknowledged-agrees = refl
+
+-- A frame BL-DATA with N(S) 0 and what goes up of it, and its acknowledgement.
+abbrev pub dataFrame : Told
+dataFrame =
+    hex 21 0x2600120003e90105fa000000000000000000000510 gets 0
+    and hex 35 0x010001040200030003e90300010105000400000000060004000000000b00000d000100
+
+abbrev pub acknowledgement : List ℕ
+acknowledgement = hex 50 0x010001020200030003e90300010104000205fa050004000000000600040000000007000400000000080001000c0003000530
+
+-- Acknowledgement 64 and 65; a frame without N(S) is not asked, and a used one makes room.
+pub dues : List Told
+dues =
+    hex 7 0x21000405fa0004 gets 0
+    ∷ hex 8 0x2200050000010103 gets 0
+    ∷ replicate 64 dataFrame
+    ++ hex 21 0x2600120003e90105fa000000000000000000000510 gets 13
+    ∷ hex 21 0x2600120003e90105fa000000000000000000000600 gets 13
+    ∷ hex 21 0x2600120003e90105fa000000000000000000000420 gets 0
+    and hex 35 0x010001050200030003e90300010105000400000000060004000000000b00000d000100
+    ∷ hex 21 0x2600120003e90105fa000000000000000000000530 gets 0
+    ∷ hex 28 0x2400190003e901000000000000070000000000000000010001000000 gets 0
+    ∷ hex 21 0x2600120003e90105fa000000000000000000000518 gets 0
+    and hex 35 0x010001040200030003e90300010105000400000000060004000000000b00000d000100
+    ∷ hex 21 0x2600120003e90105fa000000000000000000000510 gets 13
+    ∷ hex 3 0x230000 gets 0
+    with replicate 63 acknowledgement
+    and hex 50 0x010001020200030003e90300010104000205fa050004000000000600040000000007000400000000080001000c0003000538
+    and hex 57 0x010001030200030003e90300010104000205fa050004000000070600040000000007000400000000080001010a0001010b00000c0003000530
+    ∷ hex 21 0x2600120003e90105fa000000000000000000000510 gets 0
+    and hex 35 0x010001040200030003e90300010105000400000000060004000000000b00000d000100
+    ∷ []
+
+pub dues-agrees : agrees new dues ≡ true
+unfolding agrees dues
+dues-agrees = refl
+
+-- The rows of the n addresses below n, and a started link with 255 rows.
+unfoldable pub earlier : ℕ → List Row
+earlier zero = []
+earlier (suc n) = record { ssi = n; bit = false } ∷ earlier n
+
+unfoldable pub crowded : Link
+crowded = withQueues (startedWith 0x05fa 4) [] [] [] noReceipts (earlier 255)
+
+-- Row 256 and 257: 7 is asked on the acknowledged path alone, of an address without a row, and before 8.
+pub rows : List Told
+rows =
+    request 0 gets 0
+    ∷ hex 28 0x2400190003ea01000000000000000000000000000000000001000000 gets 7
+    ∷ hex 28 0x2400190000fe01000000000000000000000000000000000001000000 gets 0
+    ∷ request 2 gets 0
+    ∷ hex 28 0x2400190003ea02000000000000000000000000000000000003000000 gets 0
+    ∷ hex 28 0x2500190003ea01000000000000000000000000000000000004000000 gets 0
+    ∷ requests 61 5
+    ++ request 66 gets 8
+    ∷ hex 28 0x2400190003ea01000000000000000000000000000000000042000000 gets 7
+    ∷ hex 3 0x230000 gets 0
+    and hex 57 0x010001010200030003e90300010104000205fa050004000000000600040000000007000400000000080001000a0001000b00000c0003000510
+    and hex 57 0x010001010200030000fe0300010104000205fa050004000000000600040000000007000400000000080001000a0001010b00000c0003000510
+    and hex 57 0x010001030200030003ea0300010204000205fa050004000000000600040000000007000400000000080001000a0001030b00000c0003000420
+    and hex 57 0x010001030200030003ea0300010104000205fa050004000000000600040000000007000400000000080001000a0001040b00000c0003000420
+    ∷ []
+
+pub rows-agrees : agrees crowded rows ≡ true
+unfolding agrees rows requests crowded earlier
+rows-agrees = refl

@@ -1,0 +1,317 @@
+-- A frame, as its own address has it and as another address does.
+use Prim.Native.Nat.{ℕ}
+use mathlib.Core.Path.{_≡_, _∙_, refl, sym, ap, subst}
+use mathlib.Core.Bool.{Bool, true, false, cond, _&&_, false≢true}
+use mathlib.Core.List.{List, [], _∷_, append-nil}
+use mathlib.Core.Option.{Option, none, some}
+use borrow.Author.Tests.{eq-eqb, eqb-true, not-true}
+use lib.Dec.{eqb}
+use Rattle.questions.specs.Outcome.{accepted}
+use Rattle.questions.proofs.Asked.{accepted-passed}
+use Rattle.tx_receipt.specs.declared.TxState.the-variants.{Acknowledged}
+use Rattle.llc_pdus.specs.declared.Pdu.{Pdu}
+use Rattle.llc_pdus.specs.declared.Pdu.the-variants.{BlAdata, BlData, BlUdata, BlAck}
+use Rattle.llc_rule.specs.Lists.{keep, any, Found, nothing, first, behind, find, others}
+use Rattle.llc_rule.specs.Calls.{Frame}
+use Rattle.llc_rule.specs.Records.{Record, dataUp, ssiOf}
+use Rattle.llc_rule.specs.Received.{Received, nsOf, nrOf, indication, unlessEmpty, upward}
+use Rattle.llc_rule.specs.Messages.{Message, Due, Place, mark, slotBefore}
+use Rattle.llc_rule.specs.Done.{Done}
+use Rattle.llc_rule.specs.Link.{Link, withQueues, bitOf}
+use Rattle.llc_rule.specs.Step.{dueRoom, withDue, awaiting, fits, finishable, mayFinish, answeredBy, answered, dueNow, onReceived}
+use Rattle.llc_rule.specs.Rule.{Own, keeping, madeDue, theOne, oneTransmitted, canFinish, finished, heard, afterReceived}
+use Rattle.llc_rule.specs.Past.{Holders, isHolder}
+use Rattle.llc_rule.specs.Sound.{All, Owned, ofAddress, oneAhead, Sound}
+use Rattle.llc_rule.proofs.Lists.{by-test, both, neither, if-true, if-false, and-true, and-false, keep-yes, keep-no, keep-append, Split, FoundBy, find-by, all-back}
+use Rattle.llc_rule.proofs.Own.{sentTo, dueTo, blank, own, seenAs, accepted-same, keepFound, find-keep, keep-others, place-own, own-parts, blank-mark, blank-mark-other}
+
+none-found : {A : Type 0} (p : A → Bool) (l : List A) → any p l ≡ false → find p l ≡ nothing
+unfolding find any
+none-found p [] e = refl
+none-found p (x ∷ l) e =
+    let n = neither {x = p x} {y = any p l} e in
+    rw (n .0, none-found p l (n .1))
+
+none-of-both : {A : Type 0} (p q : A → Bool) (l : List A) → any q l ≡ false → any (λ (x : A). p x && q x) l ≡ false
+unfolding any
+none-of-both p q [] e = refl
+none-of-both p q (x ∷ l) e =
+    let n = neither {x = q x} {y = any q l} e in
+    rw (n .0, none-of-both p q l (n .1)) (by-test (p x) (λ t. rw t) (λ t. rw t))
+
+-- The one ahead, if it passes a test too.
+abbrev heads : (Message → Bool) → Found Message → Found Message
+heads p nothing = nothing
+heads p (first m ms) = cond (p m) (first m ms) nothing
+
+abbrev isSubmitted : Message → Bool
+isSubmitted m = m .submitted
+
+-- With at most one submitted, and that ahead, looking for a submitted one that passes a test finds that one or none.
+found-ahead : (p : Message → Bool) (q : List Message) → oneAhead q ≡ true → find (λ (m : Message). p m && m .submitted) q ≡ heads p (find isSubmitted q)
+unfolding find oneAhead
+found-ahead p [] e = refl
+found-ahead p (m ∷ ms) e =
+    let q : Message → Bool = λ n. p n && n .submitted in
+    let rest = not-true (any isSubmitted ms) e in
+    let x : Found Message = first m ms in
+    let other-is = ap (behind m) (none-found q ms (none-of-both p isSubmitted ms rest)) in
+    let none-is = ap (behind m) (none-found isSubmitted ms rest) in
+    by-test (m .submitted)
+    (λ u.
+    by-test (p m)
+    (λ t.
+    if-true x (behind m (find q ms)) (and-true t u)
+    ∙ sym (ap (heads p) (if-true x (behind m (find isSubmitted ms)) u) ∙ if-true x nothing t))
+    (λ t.
+    if-false {b = p m && m .submitted} x (behind m (find q ms)) (rw t)
+    ∙ other-is
+    ∙ sym (ap (heads p) (if-true x (behind m (find isSubmitted ms)) u) ∙ if-false x nothing t)))
+    (λ u.
+    if-false x (behind m (find q ms)) (and-false (p m) u)
+    ∙ other-is
+    ∙ sym (ap (heads p) (if-false x (behind m (find isSubmitted ms)) u ∙ none-is)))
+
+-- And what is found is the first.
+ahead-first : (q : List Message) → oneAhead q ≡ true → (m : Message) (ms : List Message) → find isSubmitted q ≡ first m ms → q ≡ m ∷ ms
+unfolding find oneAhead
+ahead-first [] e m ms f = cc
+ahead-first (n ∷ ns) e m ms f =
+    let rest = not-true (any isSubmitted ns) e in
+    by-test (n .submitted)
+    (λ t. let g : first n ns ≡ first m ms = sym (if-true (first n ns) (behind n (find isSubmitted ns)) t) ∙ f in cc)
+    (λ t.
+    let g : nothing ≡ first m ms =
+    sym (if-false (first n ns) (behind n (find isSubmitted ns)) t ∙ ap (behind n) (none-found isSubmitted ns rest)) ∙ f
+    in
+    cc)
+
+abbrev isFound : Found Message → Bool
+isFound nothing = false
+isFound (first m ms) = true
+
+abbrev onCarrier : Frame → Message → Bool
+onCarrier f m = eqb (m .sent .carrier) (f .carrier)
+
+abbrev toSsi : Frame → Message → Bool
+toSsi f m = eqb (m .sent .ssi) (f .ssi)
+
+-- What can come of looking for the message that a frame answers, on the link and by the rule: none, one on another carrier, or
+-- one on this.
+data Looked (f : Frame) : Found Message → Found Message → Type 0 where
+  no-one : Looked f nothing nothing
+  elsewhere : (m : Message) (ms : List Message) → onCarrier f m ≡ false → Looked f nothing (first m ms)
+  here : (m : Message) (xs : List Message) → onCarrier f m ≡ true → Looked f (first m xs) (first m (keep (toSsi f) xs))
+
+looked-at : (f : Frame) (x t : Found Message) → keepFound (toSsi f) x ≡ heads (onCarrier f) t → Looked f x t
+looked-at f nothing nothing e = no-one
+looked-at f nothing (first m ms) e =
+    by-test (onCarrier f m)
+    (λ t. absurd (false≢true (ap isFound (e ∙ if-true (first m ms) nothing t))))
+    (λ t. elsewhere m ms t)
+looked-at f (first n xs) nothing e = absurd (false≢true (ap isFound (sym e)))
+looked-at f (first n xs) (first m ms) e =
+    by-test (onCarrier f m)
+    (λ t.
+    let g : first n (keep (toSsi f) xs) ≡ first m ms = e ∙ if-true (first m ms) nothing t in
+    let same : n ≡ m = cc in
+    subst (Looked f (first n xs)) g (here n xs (ap (onCarrier f) same ∙ t)))
+    (λ t. absurd (false≢true (ap isFound (sym (e ∙ if-false (first m ms) nothing t)))))
+
+-- A frame to an address, on a link that is sound.
+module _ (f : Frame) (h : Holders) (l : Link) (ok : Sound h l) where
+  -- The one that the link awaits is the one under way, if it is on the frame's carrier.
+  looked : Looked f (awaiting f l) (theOne (own (f .ssi) h l))
+  unfolding own theOne awaiting
+  looked =
+      looked-at f (awaiting f l) (theOne (own (f .ssi) h l))
+      (sym (find-keep (toSsi f) (λ (m : Message). onCarrier f m && m .submitted) (l .acknowledged))
+      ∙ found-ahead (onCarrier f) (ofAddress (f .ssi) (l .acknowledged)) (ok .ahead (f .ssi)))
+
+  awaited : (m : Message) (xs : List Message) → awaiting f l ≡ first m xs → Split (λ (n : Message). toSsi f n && (onCarrier f n && n .submitted)) (l .acknowledged) m xs
+  unfolding awaiting
+  awaited m xs e =
+      subst (FoundBy (λ (n : Message). toSsi f n && (onCarrier f n && n .submitted)) (l .acknowledged)) e
+      (find-by (λ (n : Message). toSsi f n && (onCarrier f n && n .submitted)) (l .acknowledged))
+
+  -- It is of the frame's address, which holds its receipt.
+  to-ssi : (m : Message) (xs : List Message) → awaiting f l ≡ first m xs → toSsi f m ≡ true
+  to-ssi m xs e = both (awaited m xs e .passes) .0
+
+  is-holder : (m : Message) (xs : List Message) → awaiting f l ≡ first m xs → isHolder (f .ssi) (h (m .sent .receipt)) ≡ true
+  is-holder m xs e =
+      let s = awaited m xs e in
+      let P : Message → Type 0 = λ n. Owned h (l .receipts) (n .sent) in
+      let o = all-back P (s .front) (m ∷ s .back) (subst (All P) (s .whole) (ok .owned)) .0 in
+      rw (o .holder) (to-ssi m xs e)
+
+  -- Question 14, put to both.
+  can-finish :
+      (nr : Bool) (x t : Found Message)
+      → awaiting f l ≡ x
+      → Looked f x t
+      → oneTransmitted f nr t (own (f .ssi) h l) ≡ finishable nr x l
+  unfolding own
+  can-finish nr x t e no-one = refl
+  can-finish nr x t e (elsewhere m ms c) = rw c
+  can-finish nr x t e (here m xs c) = rw (c, place-own (f .ssi) h (l .receipts) (m .sent .receipt) (is-holder m xs e))
+
+  can-own : (x : Option Bool) → canFinish f x (own (f .ssi) h l) ≡ mayFinish f x l
+  can-own none = refl
+  can-own (some nr) = can-finish nr (awaiting f l) (theOne (own (f .ssi) h l)) refl looked
+
+  -- The link and what the rule keeps, with other acknowledged messages, acknowledgements due and receipts.
+  abbrev linkWith : List Message → List Due → List Place → Link
+  linkWith ms ds ps = withQueues l ms (l .unacknowledged) ds ps (l .rows)
+
+  abbrev ownWith : List Message → List Due → List Place → Own
+  ownWith ms ds ps =
+      keeping (own (f .ssi) h l) (bitOf (f .ssi) (l .rows)) ms (keep (sentTo (f .ssi)) (l .unacknowledged)) ds ps
+
+  own-with : (ms : List Message) (ds : List Due) (ps : List Place) (ns : List Message) (qs : List Place) → ofAddress (f .ssi) ms ≡ ns → blank (f .ssi) h ps ≡ qs
+      → own (f .ssi) h (linkWith ms ds ps) ≡ ownWith ns (keep (dueTo (f .ssi)) ds) qs
+  unfolding own
+  own-with ms ds ps ns qs e g =
+      own-parts (f .ssi) h h l (linkWith ms ds ps) refl refl e refl refl g
+
+  -- The queues after it, with acknowledgements due.
+  finish :
+      (nr : Bool) (ds : List Due) (x t : Found Message)
+      → awaiting f l ≡ x
+      → theOne (own (f .ssi) h l) ≡ t
+      → Looked f x t
+      → own (f .ssi) h (answeredBy nr x (dueNow l ds)) ≡ finished f nr t (keep (dueTo (f .ssi)) ds) (own (f .ssi) h l)
+  unfolding own answeredBy theOne
+  finish nr ds x t e g no-one = refl
+  finish nr ds x t e g (elsewhere m ms c) = rw c
+  finish nr ds x t e g (here m xs c) =
+      let a : ℕ = f .ssi in
+      let i : ℕ = m .sent .receipt in
+      let ks : List Due = keep (dueTo a) ds in
+      let was : ofAddress a (m ∷ xs) ≡ ofAddress a (l .acknowledged) =
+      keep-yes (toSsi f) m xs (to-ssi m xs e) ∙ sym (ahead-first (ofAddress a (l .acknowledged)) (ok .ahead a) m (keep (toSsi f) xs) g)
+      in
+      let gone : Link = linkWith xs ds (mark Acknowledged i (l .receipts)) in
+      let moved : Link = linkWith (m ∷ xs) ds (l .receipts) in
+      let gone-own : Own = ownWith (ofAddress a xs) ks (mark Acknowledged i (blank a h (l .receipts))) in
+      let same-own : Own = ownWith (ofAddress a (l .acknowledged)) ks (blank a h (l .receipts)) in
+      by-test (fits nr m)
+      (λ u.
+      ap (own a h) (if-true gone moved u)
+      ∙ own-with xs ds (mark Acknowledged i (l .receipts)) (ofAddress a xs) (mark Acknowledged i (blank a h (l .receipts))) refl
+      (blank-mark a h Acknowledged i (l .receipts) (is-holder m xs e))
+      ∙ sym (if-true gone-own same-own (and-true c u)))
+      (λ u.
+      ap (own a h) (if-false gone moved u)
+      ∙ own-with (m ∷ xs) ds (l .receipts) (ofAddress a (l .acknowledged)) (blank a h (l .receipts)) was refl
+      ∙ sym (if-false gone-own same-own (and-false (onCarrier f m) u)))
+
+  heard-own : (x : Option Bool) (ds : List Due) → own (f .ssi) h (answered f x (dueNow l ds)) ≡ heard f x (keep (dueTo (f .ssi)) ds) (own (f .ssi) h l)
+  unfolding own awaiting
+  heard-own none ds = refl
+  heard-own (some nr) ds = finish nr ds (awaiting f l) (theOne (own (f .ssi) h l)) refl refl looked
+
+  made-due : (x : Option Bool) → keep (dueTo (f .ssi)) (withDue f x l) ≡ madeDue f x (own (f .ssi) h l)
+  unfolding own keep
+  made-due none = refl
+  made-due (some ns) =
+      keep-append (dueTo (f .ssi)) (l .due) (record { ssi = f .ssi; type = f .type; carrier = f .carrier; nr = ns; slot = slotBefore (l .time) } ∷ [])
+      ∙ rw (eq-eqb (f .ssi) (f .ssi) refl)
+
+  -- A frame, as its address has it, where question 13 is passed.
+  pub received-own :
+      (r : Received)
+      → dueRoom (nsOf (r .header)) l ≡ true
+      → afterReceived f (accepted r) (own (f .ssi) h l) ≡ seenAs (own (f .ssi) h) (λ (rs : List Record). rs) (onReceived f (accepted r) l)
+  unfolding afterReceived onReceived seenAs
+  received-own r room =
+      rw (room, can-own (nrOf (r .header)), ← made-due (nsOf (r .header)))
+      (by-test (mayFinish f (nrOf (r .header)) l)
+      (λ t. rw (t, heard-own (nrOf (r .header)) (withDue f (nsOf (r .header)) l)))
+      (λ t. rw t))
+
+-- Another address's frame changes nothing of an address, and gives no record with its SSI.
+module _ (a : ℕ) (f : Frame) (h : Holders) (l : Link) (ok : Sound h l) (other : eqb (f .ssi) a ≡ false) where
+  due-other : (x : Option Bool) → keep (dueTo a) (withDue f x l) ≡ keep (dueTo a) (l .due)
+  unfolding keep
+  due-other none = refl
+  due-other (some ns) =
+      keep-append (dueTo a) (l .due) (record { ssi = f .ssi; type = f .type; carrier = f .carrier; nr = ns; slot = slotBefore (l .time) } ∷ [])
+      ∙ rw other (append-nil (keep (dueTo a) (l .due)))
+
+  not-to : (m : Message) → toSsi f m ≡ true → eqb (m .sent .ssi) a ≡ false
+  not-to m t = rw (eqb-true (m .sent .ssi) (f .ssi) t) other
+
+  holder-other : (m : Message) (xs : List Message) → awaiting f l ≡ first m xs → isHolder a (h (m .sent .receipt)) ≡ false
+  holder-other m xs e =
+      let s = awaited f h l ok m xs e in
+      let P : Message → Type 0 = λ n. Owned h (l .receipts) (n .sent) in
+      let o = all-back P (s .front) (m ∷ s .back) (subst (All P) (s .whole) (ok .owned)) .0 in
+      rw (o .holder) (not-to m (to-ssi f h l ok m xs e))
+
+  others-other : (m : Message) (xs : List Message) → awaiting f l ≡ first m xs → ofAddress a xs ≡ ofAddress a (l .acknowledged)
+  unfolding awaiting
+  others-other m xs e =
+      let p : Message → Bool = λ n. toSsi f n && (onCarrier f n && n .submitted) in
+      ap (λ (x : Found Message). ofAddress a (others x (l .acknowledged))) (sym e)
+      ∙ keep-others (λ (n : Message). eqb (n .sent .ssi) a) p (l .acknowledged) (λ n t. not-to n (both t .0))
+
+  same-with :
+      (ms : List Message) (ds : List Due) (ps : List Place)
+      → ofAddress a ms ≡ ofAddress a (l .acknowledged)
+      → keep (dueTo a) ds ≡ keep (dueTo a) (l .due)
+      → blank a h ps ≡ blank a h (l .receipts)
+      → own a h (withQueues l ms (l .unacknowledged) ds ps (l .rows)) ≡ own a h l
+  unfolding own
+  same-with ms ds ps e d g =
+      own-parts a h h l (withQueues l ms (l .unacknowledged) ds ps (l .rows)) refl refl e refl d g
+
+  answered-other :
+      (nr : Bool) (ds : List Due) (x : Found Message)
+      → awaiting f l ≡ x
+      → keep (dueTo a) ds ≡ keep (dueTo a) (l .due)
+      → own a h (answeredBy nr x (dueNow l ds)) ≡ own a h l
+  unfolding answeredBy
+  answered-other nr ds nothing e d = same-with (l .acknowledged) ds (l .receipts) refl d refl
+  answered-other nr ds (first m xs) e d =
+      let i : ℕ = m .sent .receipt in
+      let gone : Link = withQueues l xs (l .unacknowledged) ds (mark Acknowledged i (l .receipts)) (l .rows) in
+      let moved : Link = withQueues l (m ∷ xs) (l .unacknowledged) ds (l .receipts) (l .rows) in
+      by-test (fits nr m)
+      (λ u.
+      ap (own a h) (if-true gone moved u)
+      ∙ same-with xs ds (mark Acknowledged i (l .receipts)) (others-other m xs e) d
+      (blank-mark-other a h Acknowledged i (l .receipts) (holder-other m xs e)))
+      (λ u.
+      ap (own a h) (if-false gone moved u)
+      ∙ same-with (m ∷ xs) ds (l .receipts)
+      (keep-no (λ (n : Message). eqb (n .sent .ssi) a) m xs (not-to m (to-ssi f h l ok m xs e)) ∙ others-other m xs e) d refl)
+
+  heard-other : (x y : Option Bool) → own a h (answered f x (dueNow l (withDue f y l))) ≡ own a h l
+  unfolding awaiting
+  heard-other none y = same-with (l .acknowledged) (withDue f y l) (l .receipts) refl (due-other y) refl
+  heard-other (some nr) y = answered-other nr (withDue f y l) (awaiting f l) refl (due-other y)
+
+  unless-empty : (s : List ℕ) (r : Record) → eqb (ssiOf r) a ≡ false → keep (λ (q : Record). eqb (ssiOf q) a) (unlessEmpty s r) ≡ []
+  unfolding keep
+  unless-empty [] r e = refl
+  unless-empty (b ∷ s) r e = rw e
+
+  upward-other : (p : Pdu) (s : List ℕ) → keep (λ (q : Record). eqb (ssiOf q) a) (upward f p s) ≡ []
+  unfolding upward keep
+  upward-other (BlAdata c nr ns) s = rw other
+  upward-other (BlData c ns) s = rw other
+  upward-other (BlUdata c) s = rw other
+  upward-other (BlAck c nr) s = unless-empty s (dataUp (indication f (BlAck c nr) 0 s)) other
+
+  pub received-other :
+      (r : Received) (d : Done Link)
+      → onReceived f (accepted r) l ≡ accepted d
+      → (own a h (d .state) ≡ own a h l) × (keep (λ (q : Record). eqb (ssiOf q) a) (d .records) ≡ [])
+  unfolding onReceived
+  received-other r d e =
+      let asked13 = accepted-passed 13 (dueRoom (nsOf (r .header)) l) (sym e) in
+      let asked14 = accepted-passed 14 (mayFinish f (nrOf (r .header)) l) (asked13 .1) in
+      subst (λ (z : Done Link). (own a h (z .state) ≡ own a h l) × (keep (λ (q : Record). eqb (ssiOf q) a) (z .records) ≡ []))
+      (sym (accepted-same (asked14 .1)))
+      (heard-other (nrOf (r .header)) (nsOf (r .header)), upward-other (r .header) (r .sdu))

@@ -1,0 +1,340 @@
+-- A request that is accepted keeps the invariant: its message is put last, with a receipt that was free.
+use Prim.Native.Nat.{ℕ, suc, _+_, _≤_, _<_}
+use native.Mathlib.Omega.{arith}
+use mathlib.Core.Path.{_≡_, _∙_, refl, sym}
+use mathlib.Core.Bool.{Bool, true, false, cond, not, _&&_, and-false}
+use mathlib.Core.List.{List, [], _∷_, _++_}
+use mathlib.Core.Option.{Option, some}
+use borrow.Author.Tests.{eqb-true, eq-eqb, ltb-true}
+use lib.Dec.{eqb, ltb}
+use lib.ListN.{length, set, length-append, length-set}
+use lib.Seq.{getD-set-same}
+use Rattle.questions.specs.Outcome.{accepted}
+use Rattle.questions.proofs.Asked.{accepted-passed}
+use Rattle.llc_pdus.specs.declared.Pdu.{Pdu}
+use Rattle.llc_pdus.specs.declared.Pdu.the-variants.{BlUdata}
+use Rattle.llc_rule.specs.Lists.{keep, any, Found, nothing, first, find, others}
+use Rattle.llc_rule.specs.Calls.{Request}
+use Rattle.llc_rule.specs.Ranges.{steals, requestInRange}
+use Rattle.llc_rule.specs.Records.{Sent}
+use Rattle.llc_rule.specs.Messages.{Message, waiting, Due, Place, free, pending, placeAt, isFree, carrierOf, sentOf}
+use Rattle.llc_rule.specs.Done.{Done}
+use Rattle.llc_rule.specs.Link.{Link, Row, withQueues, bitOf, withBit}
+use Rattle.llc_rule.specs.Step.{dueFor, receiptFree, rowFor, acknowledgedPlace, unacknowledgedPlace, onAcknowledgedPath, dataPdu, withAcknowledged, withUnacknowledged, withStolen, onData, onUnitdata}
+use Rattle.llc_rule.specs.Past.{Holders, holding}
+use Rattle.llc_rule.specs.Sound.{All, Owned, IsPending, Waiting, acknowledgedWith, unacknowledgedWith, ofAddress, Sound}
+use Rattle.llc_rule.proofs.Lists.{by-test, clash, keep-append, all-append, all-map, FoundBy, find-by}
+use Rattle.llc_rule.proofs.SoundLists.{count-append, none-passes, other-place, other-pending, owned-other, free-written, pending-other, waiting-other, ahead-append, sound-done}
+
+-- The new message ---------------------------------------------------------------------------------------------------------
+
+owned-new :
+    (h : Holders) (ps : List Place) (t : Sent) (expects : Bool)
+    → t .receipt < length ps
+    → Owned (holding (t .receipt) (some (t .ssi)) h) (set ps (t .receipt) (pending expects)) t
+owned-new h ps t expects b =
+    record {
+      holder = rw (eq-eqb (t .receipt) (t .receipt) refl);
+      taken = rw (getD-set-same ps (t .receipt) (pending expects) free b);
+    }
+
+pending-new : (ps : List Place) (i : ℕ) (expects : Bool) → i < length ps → IsPending (set ps i (pending expects)) i
+pending-new ps i expects b = rw (getD-set-same ps i (pending expects) free b)
+
+-- The messages that were held: their receipts are others, so they are owned and wait as before, and none counts with it.
+module _ (h : Holders) (l : Link) (i : ℕ) (s : Sound h l) (f : isFree (placeAt (l .receipts) i) ≡ true) where
+  held-none : acknowledgedWith i (l .acknowledged) ≡ 0
+  held-none =
+      none-passes _ _ (l .acknowledged) (λ m o. other-place (l .receipts) i (m .sent .receipt) f (o .taken)) (s .owned)
+
+  held-none-too : unacknowledgedWith i (l .unacknowledged) ≡ 0
+  held-none-too = none-passes _ _ (l .unacknowledged) (λ u o. other-place (l .receipts) i (u .receipt) f (o .taken)) (s .ownedToo)
+
+  held-owned :
+      (who : Option ℕ) (p : Place)
+      → All (λ (m : Message). Owned (holding i who h) (set (l .receipts) i p) (m .sent)) (l .acknowledged)
+  held-owned who p =
+      all-map _ _ (l .acknowledged)
+      (λ m o. owned-other h (l .receipts) i who p (m .sent) o (other-place (l .receipts) i (m .sent .receipt) f (o .taken)))
+      (s .owned)
+
+  held-owned-too : (who : Option ℕ) (p : Place) → All (Owned (holding i who h) (set (l .receipts) i p)) (l .unacknowledged)
+  held-owned-too who p =
+      all-map _ _ (l .unacknowledged)
+      (λ u o. owned-other h (l .receipts) i who p u o (other-place (l .receipts) i (u .receipt) f (o .taken)))
+      (s .ownedToo)
+
+  held-waiting : (p : Place) → All (Waiting (set (l .receipts) i p)) (l .acknowledged)
+  held-waiting p =
+      all-map _ _ (l .acknowledged)
+      (λ m w.
+      waiting-other (l .receipts) i p m
+      (λ e. other-pending (l .receipts) i (m .sent .receipt) f (w .receipt e))
+      w)
+      (s .waiting)
+
+  held-waiting-too : (p : Place) → All (λ (u : Sent). IsPending (set (l .receipts) i p) (u .receipt)) (l .unacknowledged)
+  held-waiting-too p =
+      all-map _ _ (l .unacknowledged)
+      (λ u w.
+      pending-other (l .receipts) i (u .receipt) p
+      (other-pending (l .receipts) i (u .receipt) f w)
+      w)
+      (s .waitingToo)
+
+-- One more with receipt i, of which there was none, leaves at most one of each receipt.
+one-more :
+    {A : Type 0} (receipt : A → ℕ) (l : List A) (x : A) (j n : ℕ)
+    → length (keep (λ (y : A). eqb (receipt y) (receipt x)) l) ≡ 0
+    → (receipt x ≡ j → n ≡ 0)
+    → length (keep (λ (y : A). eqb (receipt y) j) l) + n ≤ 1
+    → length (keep (λ (y : A). eqb (receipt y) j) (l ++ (x ∷ []))) + n ≤ 1
+unfolding keep
+one-more {A} receipt l x j n z c a =
+    rw (count-append (λ (y : A). eqb (receipt y) j) l (x ∷ []))
+    (by-test (eqb (receipt x) j)
+    (λ e.
+    let q = eqb-true (receipt x) j e in
+    rw (e, c q, ← q, z) (omega arith))
+    (λ e. rw e (omega arith)))
+
+none-submitted :
+    (p : Message → Bool) (m : Message)
+    → m .submitted ≡ false
+    → any (λ (n : Message). n .submitted) (keep p (m ∷ [])) ≡ false
+unfolding keep any
+none-submitted p m e = by-test (p m) (λ h. rw (h, e)) (λ h. rw h)
+
+-- An acknowledged message that waits, put last.
+sound-acknowledged :
+    (h : Holders) (l : Link) (t : Sent) (ns : Bool) (ds : List Due) (rs : List Row)
+    → t .receipt < 128
+    → isFree (placeAt (l .receipts) (t .receipt)) ≡ true
+    → length (l .acknowledged) < 64
+    → length ds ≤ 64
+    → length rs ≤ 256
+    → Sound h l
+    → Sound (holding (t .receipt) (some (t .ssi)) h)
+    (withQueues l
+    (l .acknowledged ++ (waiting t ns ∷ []))
+    (l .unacknowledged)
+    ds
+    (set (l .receipts) (t .receipt) (pending true))
+    rs)
+sound-acknowledged h l t ns ds rs b f room roomDue roomRows s =
+    let inside : t .receipt < length (l .receipts) = omega (arith, s .limits .receipts) in
+    record {
+      limits =
+          record {
+            acknowledged = rw (length-append (l .acknowledged) (waiting t ns ∷ [])) (omega arith);
+            unacknowledged = s .limits .unacknowledged;
+            due = roomDue;
+            receipts = length-set (l .receipts) (t .receipt) _ ∙ s .limits .receipts;
+            rows = roomRows;
+          };
+      owned =
+          all-append _ (l .acknowledged) (waiting t ns ∷ [])
+          (held-owned h l (t .receipt) s f _ _)
+          (owned-new h (l .receipts) t true inside, tt);
+      ownedToo = held-owned-too h l (t .receipt) s f _ _;
+      apart =
+          λ j.
+          one-more (λ (m : Message). m .sent .receipt) (l .acknowledged) (waiting t ns) j (unacknowledgedWith j (l .unacknowledged))
+          (held-none h l (t .receipt) s f)
+          (λ e. rw (← e) (held-none-too h l (t .receipt) s f))
+          (s .apart j);
+      free = free-written h (l .receipts) (t .receipt) (some (t .ssi)) (pending true) inside refl (s .free);
+      waiting =
+          all-append _ (l .acknowledged) (waiting t ns ∷ [])
+          (held-waiting h l (t .receipt) s f _)
+          (record { receipt = λ e. pending-new (l .receipts) (t .receipt) true inside; time = λ e. refl }, tt);
+      waitingToo = held-waiting-too h l (t .receipt) s f _;
+      ahead =
+          λ a.
+          rw (keep-append (λ (m : Message). eqb (m .sent .ssi) a) (l .acknowledged) (waiting t ns ∷ []))
+          (ahead-append
+          (ofAddress a (l .acknowledged))
+          (ofAddress a (waiting t ns ∷ []))
+          (none-submitted (λ (m : Message). eqb (m .sent .ssi) a) (waiting t ns) refl)
+          (s .ahead a));
+    }
+
+-- An unacknowledged message put last.
+sound-unacknowledged :
+    (h : Holders) (l : Link) (t : Sent) (ds : List Due)
+    → t .receipt < 128
+    → isFree (placeAt (l .receipts) (t .receipt)) ≡ true
+    → length (l .unacknowledged) < 32
+    → length ds ≤ 64
+    → Sound h l
+    → Sound (holding (t .receipt) (some (t .ssi)) h)
+    (withQueues l
+    (l .acknowledged)
+    (l .unacknowledged ++ (t ∷ []))
+    ds
+    (set (l .receipts) (t .receipt) (pending false))
+    (l .rows))
+sound-unacknowledged h l t ds b f room roomDue s =
+    let inside : t .receipt < length (l .receipts) = omega (arith, s .limits .receipts) in
+    record {
+      limits =
+          record {
+            acknowledged = s .limits .acknowledged;
+            unacknowledged = rw (length-append (l .unacknowledged) (t ∷ [])) (omega arith);
+            due = roomDue;
+            receipts = length-set (l .receipts) (t .receipt) _ ∙ s .limits .receipts;
+            rows = s .limits .rows;
+          };
+      owned = held-owned h l (t .receipt) s f _ _;
+      ownedToo =
+          all-append _ (l .unacknowledged) (t ∷ [])
+          (held-owned-too h l (t .receipt) s f _ _)
+          (owned-new h (l .receipts) t false inside, tt);
+      apart =
+          λ j.
+          let more =
+          one-more (λ (u : Sent). u .receipt) (l .unacknowledged) t j (acknowledgedWith j (l .acknowledged))
+          (held-none-too h l (t .receipt) s f)
+          (λ e. rw (← e) (held-none h l (t .receipt) s f))
+          (omega (arith, s .apart j)) in
+          omega (arith, more);
+      free = free-written h (l .receipts) (t .receipt) (some (t .ssi)) (pending false) inside refl (s .free);
+      waiting = held-waiting h l (t .receipt) s f _;
+      waitingToo =
+          all-append _ (l .unacknowledged) (t ∷ [])
+          (held-waiting-too h l (t .receipt) s f _)
+          (pending-new (l .receipts) (t .receipt) false inside, tt);
+      ahead = s .ahead;
+    }
+
+-- Rows and due acknowledgements -------------------------------------------------------------------------------------------
+
+-- A bit is written in the address's row, or in one more.
+length-withBit :
+    (a : ℕ) (b : Bool) (rs : List Row)
+    → length (withBit a b rs) ≡ cond (any (λ (w : Row). eqb (w .ssi) a) rs) (length rs) (suc (length rs))
+unfolding withBit any
+length-withBit a b [] = refl
+length-withBit a b (r ∷ rs) =
+    by-test (eqb (r .ssi) a)
+    (λ e. rw e)
+    (λ e.
+    rw (e, length-withBit a b rs)
+    (by-test (any (λ (w : Row). eqb (w .ssi) a) rs) (λ q. rw q) (λ q. rw q)))
+
+rows-within :
+    (r : Request) (l : Link) (b : Bool)
+    → rowFor r l ≡ true
+    → length (l .rows) ≤ 256
+    → length (withBit (r .ssi) b (l .rows)) ≤ 256
+unfolding rowFor
+rows-within r l b e h =
+    rw (length-withBit (r .ssi) b (l .rows))
+    (by-test (any (λ (w : Row). eqb (w .ssi) (r .ssi)) (l .rows))
+    (λ q. rw q h)
+    (λ q. rw q (ltb-true (length (l .rows)) 256 (rw q at e))))
+
+others-within : {A : Type 0} (p : A → Bool) (l : List A) (f : Found A) → FoundBy p l f → length (others f l) ≤ length l
+others-within p l nothing s = omega arith
+others-within p l (first x xs) s =
+    rw (s .whole, s .rest, length-append (s .front) (s .back), length-append (s .front) (x ∷ s .back)) (omega arith)
+
+due-within : (r : Request) (l : Link) → length (others (dueFor r l) (l .due)) ≤ length (l .due)
+unfolding dueFor
+due-within r l =
+    let p : Due → Bool = λ d. eqb (d .ssi) (r .ssi) && eqb (d .carrier) (carrierOf (l .carrier) r) in
+    others-within p (l .due) (find p (l .due)) (find-by p (l .due))
+
+-- Requests ----------------------------------------------------------------------------------------------------------------
+
+pub receipt-within : (r : Request) → requestInRange r ≡ true → r .receipt < 128
+unfolding requestInRange
+receipt-within r h =
+    by-test (ltb (r .receipt) 128)
+    (λ e. ltb-true (r .receipt) 128 e)
+    (λ e. clash h (simp (e, and-false)))
+
+sound-with-acknowledged :
+    (h : Holders) (l : Link) (r : Request)
+    → r .receipt < 128
+    → receiptFree r l ≡ true
+    → rowFor r l ≡ true
+    → acknowledgedPlace l ≡ true
+    → Sound h l
+    → Sound (holding (r .receipt) (some (r .ssi)) h) (withAcknowledged r l)
+unfolding withAcknowledged sentOf
+sound-with-acknowledged h l r b f row place s =
+    sound-acknowledged h l (sentOf r (carrierOf (l .carrier) r) 0 (dataPdu r (bitOf (r .ssi) (l .rows)) (dueFor r l)))
+    (bitOf (r .ssi) (l .rows))
+    (others (dueFor r l) (l .due))
+    (withBit (r .ssi) (not (bitOf (r .ssi) (l .rows))) (l .rows))
+    b
+    f
+    (ltb-true (length (l .acknowledged)) 64 place)
+    (omega (arith, due-within r l, s .limits .due))
+    (rows-within r l _ row (s .limits .rows))
+    s
+
+sound-with-unacknowledged :
+    (h : Holders) (l : Link) (r : Request) (link : ℕ) (p : Pdu) (ds : List Due)
+    → r .receipt < 128
+    → receiptFree r l ≡ true
+    → unacknowledgedPlace l ≡ true
+    → length ds ≤ length (l .due)
+    → Sound h l
+    → Sound (holding (r .receipt) (some (r .ssi)) h) (withUnacknowledged r link p ds l)
+unfolding withUnacknowledged sentOf
+sound-with-unacknowledged h l r link p ds b f place room s =
+    sound-unacknowledged h l (sentOf r (carrierOf (l .carrier) r) link p) ds b f
+    (ltb-true (length (l .unacknowledged)) 32 place)
+    (omega (arith, room, s .limits .due))
+    s
+
+sound-with-stolen :
+    (h : Holders) (l : Link) (r : Request) (d : Found Due)
+    → r .receipt < 128
+    → receiptFree r l ≡ true
+    → unacknowledgedPlace l ≡ true
+    → length (others d (l .due)) ≤ length (l .due)
+    → Sound h l
+    → Sound (holding (r .receipt) (some (r .ssi)) h) (withStolen r l d)
+unfolding withStolen
+sound-with-stolen h l r (first d ds) b f place room s = sound-with-unacknowledged h l r _ _ ds b f place room s
+sound-with-stolen h l r nothing b f place room s = sound-with-unacknowledged h l r _ _ (l .due) b f place room s
+
+pub sound-data :
+    (h : Holders) (l : Link) (r : Request)
+    → requestInRange r ≡ true
+    → Sound h l
+    → (d : Done Link)
+    → onData r l ≡ accepted d
+    → Sound (holding (r .receipt) (some (r .ssi)) h) (d .state)
+unfolding onData
+sound-data h l r b s d e =
+    let q6 = accepted-passed 6 (receiptFree r l) (sym e) in
+    let g = q6 .1 in
+    by-test (onAcknowledgedPath r)
+    (λ path.
+    let q7 = accepted-passed 7 (rowFor r l) (rw path at g) in
+    let q8 = accepted-passed 8 (acknowledgedPlace l) (q7 .1) in
+    sound-done _ _ d (q8 .1) (sound-with-acknowledged h l r (receipt-within r b) (q6 .0) (q7 .0) (q8 .0) s))
+    (λ path.
+    let q8 = accepted-passed 8 (unacknowledgedPlace l) (rw path at g) in
+    sound-done _ _ d (q8 .1)
+    (by-test (steals r)
+    (λ t. rw t (sound-with-stolen h l r (dueFor r l) (receipt-within r b) (q6 .0) (q8 .0) (due-within r l) s))
+    (λ t. rw t (sound-with-stolen h l r nothing (receipt-within r b) (q6 .0) (q8 .0) (omega arith) s))))
+
+pub sound-unitdata :
+    (h : Holders) (l : Link) (r : Request)
+    → requestInRange r ≡ true
+    → Sound h l
+    → (d : Done Link)
+    → onUnitdata r l ≡ accepted d
+    → Sound (holding (r .receipt) (some (r .ssi)) h) (d .state)
+unfolding onUnitdata
+sound-unitdata h l r b s d e =
+    let q6 = accepted-passed 6 (receiptFree r l) (sym e) in
+    let q8 = accepted-passed 8 (unacknowledgedPlace l) (q6 .1) in
+    sound-done _ _ d (q8 .1)
+    (sound-with-unacknowledged h l r (r .link) (BlUdata false) (l .due) (receipt-within r b) (q6 .0) (q8 .0) (omega arith) s)
