@@ -10,7 +10,7 @@ use Rattle.llc_rule.specs.Link.{new}
 use Rattle.llc_rule.specs.Runs.{run}
 use Rattle.llc_rule.specs.Claim.{unhindered, SeesItsOwnPast}
 use Rattle.llc_rule.proofs.Demand3.{demand3}
-use Rattle.llc_rule.proofs.Runs.{Told, hex, _gets_, _and_, outcome, agrees}
+use Rattle.llc_rule.proofs.Runs.{Told, hex, _gets_, _and_, exchanges, agrees}
 
 -- What is handed down for the two requests, at first and again.
 abbrev pub toFirst : List ℕ
@@ -54,7 +54,7 @@ unfolding agrees instance
 instance-agrees = refl
 
 pub unhindered-instance : unhindered (run new instanceCalls) ≡ true
-unfolding unhindered run all any toBytes outcome instance
+unfolding unhindered run all any toBytes exchanges instance
 unhindered-instance = refl
 
 -- So demand 3 says of it what it says of every address.

@@ -1,18 +1,18 @@
--- Runs of calls, each call with the number and the records that it should get. The checker computes `step` on them, each call
--- on the link that the last one left. What they should get was written from document 01, not taken from `step`.
+-- Runs of calls, each call with the number and the records that it should get: the checker computes `run` on the calls. What
+-- they should get was written from document 01, and not taken from `step`.
 pub mod Sample
 pub mod Edges
 pub mod Course
 pub mod Awkward
+pub mod Marks
 use Prim.Native.Nat.{ℕ, zero, suc}
 use mathlib.Core.Bool.{Bool, true, false, _&&_}
-use mathlib.Core.List.{List, [], _∷_, _++_}
+use mathlib.Core.List.{List, [], _∷_, _++_, map}
 use lib.Dec.{eqb}
 use Rattle.bits.specs.Bits.{toBits, value, bits}
 use Rattle.fcs.specs.Polynomials.{plus, divisor, rest}
 use Rattle.fcs.specs.Fcs.{start, fcs}
 use Rattle.llc_pdus.specs.Headers.{reading}
-use Rattle.questions.specs.Outcome.{Outcome, number}
 use Rattle.tdma_time.specs.Modulo.{modulo}
 use Rattle.tdma_time.specs.Slots.{slots, timeAt, plus as plusSlots, centred, minus, valid}
 use Rattle.llc_rule.specs.Lists.{any, find, walk}
@@ -21,10 +21,9 @@ use Rattle.llc_rule.specs.Records.{Record, packed, counted, masked, coun
 use Rattle.llc_rule.specs.Ranges.{requestInRange, frameInRange, inRange}
 use Rattle.llc_rule.specs.Received.{checks, checked, received, upward}
 use Rattle.llc_rule.specs.Messages.{noReceipts, overdue, slotBefore, replyTo, sentOf}
-use Rattle.llc_rule.specs.Done.{Done}
 use Rattle.llc_rule.specs.Link.{Link, new, startedWith, bitOf, withBit}
 use Rattle.llc_rule.specs.Step.{dueFor, rowFor, withAcknowledged, withUnacknowledged, withStolen, onData, onUnitdata, awaiting, answeredBy, onReceived, onFrame, held, waits, onReport, onRelease, retransmission, firstSending, retransmissions, firstSendings, onTickEnd, act, called, step}
-use Rattle.llc_rule.specs.Runs.{left, given}
+use Rattle.llc_rule.specs.Runs.{Exchange, run, after}
 
 -- A call, and the number and the records that it should get.
 pub record Told : Type 0 where
@@ -63,26 +62,33 @@ same (x ∷ xs) [] = false
 same (x ∷ xs) (y ∷ ys) = eqb x y && same xs ys
 
 unfoldable pub spell : List (List ℕ) → List Record → Bool
-unfolding same value toBytes packed counted masked countedIfAny sentBytes replyBytes indicationBytes bytes
+unfolding same packed counted masked countedIfAny sentBytes replyBytes indicationBytes bytes
 spell [] [] = true
 spell [] (r ∷ rs) = false
 spell (x ∷ xs) [] = false
 spell (x ∷ xs) (r ∷ rs) = same x (bytes r) && spell xs rs
 
--- `step` with all that it computes by opened.
-unfoldable pub outcome : Link → List ℕ → Outcome (Done Link)
-unfolding toBits value bits plus divisor rest start fcs reading modulo slots timeAt plusSlots centred minus valid any find walk
-    fromBytes filledFrom requestIn frameIn tagOf inner filled callOf requestInRange frameInRange inRange checks checked received
-    upward overdue slotBefore replyTo sentOf noReceipts new startedWith bitOf withBit dueFor rowFor withAcknowledged
-    withUnacknowledged withStolen onData onUnitdata awaiting answeredBy onReceived onFrame held waits onReport onRelease
-    retransmission firstSending retransmissions firstSendings onTickEnd act called step
-outcome l c = step l c
+-- The exchanges of a run from a link, with all opened that `run` computes by, and the link after it.
+unfoldable pub exchanges : Link → List Told → List Exchange
+unfolding toBits value bits plus divisor rest start fcs reading modulo slots timeAt plusSlots centred minus valid any find
+    walk fromBytes toBytes filledFrom requestIn frameIn tagOf inner filled callOf requestInRange frameInRange inRange checks
+    checked received upward overdue slotBefore replyTo sentOf noReceipts new startedWith bitOf withBit dueFor rowFor
+    withAcknowledged withUnacknowledged withStolen onData onUnitdata awaiting answeredBy onReceived onFrame held waits
+    onReport onRelease retransmission firstSending retransmissions firstSendings onTickEnd act called step run
+exchanges l ts = run l (map (λ (t : Told). t .call) ts)
 
--- Does each call of a run from a link get what it should?
+unfoldable pub linkAfter : Link → List Told → Link
+unfolding exchanges after
+linkAfter l ts = after l (map (λ (t : Told). t .call) ts)
+
+-- Does each call of a run get its number and its records?
+unfoldable pub told : List Told → List Exchange → Bool
+unfolding spell
+told [] [] = true
+told [] (e ∷ es) = false
+told (t ∷ ts) [] = false
+told (t ∷ ts) (e ∷ es) = eqb (e .number) (t .number) && spell (t .records) (e .records) && told ts es
+
 unfoldable pub agrees : Link → List Told → Bool
-unfolding spell outcome
-agrees l [] = true
-agrees l (t ∷ ts) =
-    let o = outcome l (t .call) in
-    let later = agrees (left l o) ts in
-    eqb (number o) (t .number) && spell (t .records) (given o) && later
+unfolding exchanges told
+agrees l ts = told ts (exchanges l ts)
