@@ -81,6 +81,7 @@ filledFrom v i =
     && eqb (length v) (i + 3 + getD v i 0 + (countAt v i + 7) / 8)
     && zeros (drop (countAt v i) (bits (drop (i + 3 + getD v i 0) v)))
 
+-- The values of a tick start, of a request and of a frame, each field at its place.
 abbrev pub timeIn : List ℕ → TdmaTime
 timeIn v = record { t = getD v 4 0; f = getD v 3 0; m = getD v 2 0; h = numberAt v 0 2 }
 

@@ -37,6 +37,7 @@ abbrev pub heldAfterCall : Outcome Call → Holders → Holders
 heldAfterCall (refused n) h = h
 heldAfterCall (accepted c) h = heldAfter c h
 
+-- Who holds each receipt after a call with its answer: an accepted call has number 0.
 unfoldable pub holders : Exchange → Holders → Holders
 holders e h = cond (eqb (e .number) 0) (heldAfterCall (callOf (e .call)) h) h
 
@@ -70,6 +71,7 @@ whoseIs h (accepted c) = whoseCall h c
 unfoldable pub whose : Holders → List ℕ → Whose
 whose h bytes = whoseIs h (callOf bytes)
 
+-- Is a call of somebody in the past of address a?
 abbrev pub concerns : ℕ → Whose → Bool
 concerns a everybody's = true
 concerns a nobody's = false

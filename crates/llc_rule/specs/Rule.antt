@@ -79,6 +79,7 @@ afterTick t o =
       receipts = o .receipts;
     }
 
+-- What the rule keeps, with another bit, messages, acknowledgements due and receipts.
 abbrev pub keeping : Own → Bool → List Message → List Sent → List Due → List Place → Own
 keeping o b ms us ds ps =
     record {
@@ -129,6 +130,7 @@ requested r o found (unacknowledgedly link p uses) =
     (cond uses (others found (o .due)) (o .due))
     (set (o .receipts) (r .receipt) (pending false))
 
+-- A data request, with the acknowledgement due there.
 unfoldable pub afterData : Request → Own → Own
 afterData r o =
     requested r o (dueOn (carrierOf (o .carrier) r) o)
@@ -161,6 +163,7 @@ onTime time t251 ps m (some t) =
     }))
     (record { state = ps; stays = m ∷ []; out = [] })
 
+-- What the tick end does with one message.
 unfoldable pub looked : TdmaTime → ℕ → List Place → Message → Visit (List Place) Message Record
 looked time t251 ps m = onTime time t251 ps (noted time ps m) (noted time ps m .done)
 
@@ -180,6 +183,7 @@ submitOldest ps (m ∷ ms) =
 unfoldable pub submitted : List Place → List Message → Visit (List Place) Message Record
 submitted ps ms = cond (underWay ms) (record { state = ps; stays = ms; out = [] }) (submitOldest ps ms)
 
+-- All messages in order, and then the oldest that waits.
 unfoldable pub resent : Own → Visit (List Place) Message Record
 resent o = walk (looked (o .time) (o .t251)) (o .receipts) (o .acknowledged)
 
@@ -226,10 +230,12 @@ finished f nr (first m ms) ds o =
     (keeping o (o .bit) ms (o .unacknowledged) ds (mark Acknowledged (m .sent .receipt) (o .receipts)))
     (keeping o (o .bit) (o .acknowledged) (o .unacknowledged) ds (o .receipts))
 
+-- What N(R) does, with the acknowledgements that are then due.
 abbrev pub heard : Frame → Option Bool → List Due → Own → Own
 heard f none ds o = keeping o (o .bit) (o .acknowledged) (o .unacknowledged) ds (o .receipts)
 heard f (some nr) ds o = finished f nr (theOne o) ds o
 
+-- A frame that passed questions 9 to 12: question 14, what it does and what goes up.
 unfoldable pub afterReceived : Frame → Outcome Received → Own → Outcome (Done Own)
 afterReceived f (refused n) o = refused n
 afterReceived f (accepted r) o =
@@ -245,6 +251,7 @@ stillWaits i o =
     any (λ (m : Message). eqb (m .sent .receipt) i && not (m .submitted)) (o .acknowledged)
     || any (λ (s : Sent). eqb (s .receipt) i) (o .unacknowledged)
 
+-- "A report marks its receipt as it says."
 unfoldable pub afterReport : ℕ → ℕ → Own → Outcome (Done Own)
 afterReport i how o =
     ask 15 (taken? (is Pending) (placeAt (o .receipts) i) && not (stillWaits i o))
@@ -277,6 +284,7 @@ mayCome (frame f) o = o .started
 mayCome (report receipt how) o = o .started
 mayCome (release receipt) o = o .started
 
+-- What each call does.
 unfoldable pub does : Call → Own → Outcome (Done Own)
 does (start carrier t251) o = accepted (done (afterStart carrier t251) [])
 does (tickStart time) o = accepted (done (afterTick time o) [])
@@ -293,5 +301,6 @@ unfoldable pub judged : Own → Outcome Call → Outcome (Done Own)
 judged o (refused n) = refused n
 judged o (accepted c) = ask 4 (mayCome c o) (ask 5 (inRange c) (does c o))
 
+-- The rule on one call of any bytes.
 unfoldable pub rule : Own → List ℕ → Outcome (Done Own)
 rule o bytes = judged o (callOf bytes)

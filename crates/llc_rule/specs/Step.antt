@@ -76,6 +76,7 @@ unfoldable pub withStolen : Request → Link → Found Due → Link
 withStolen r l (first d ds) = withUnacknowledged r (r .link) (BlAck (wantsFcs r) (d .nr)) ds l
 withStolen r l nothing = withUnacknowledged r 0 (BlUdata false) (l .due) l
 
+-- A data request: questions 6, 7 and 8, and its message is put last.
 unfoldable pub onData : Request → Link → Outcome (Done Link)
 onData r l =
     ask 6 (receiptFree r l)
@@ -84,6 +85,7 @@ onData r l =
     (ask 8 (unacknowledgedPlace l)
     (accepted (done (cond (steals r) (withStolen r l (dueFor r l)) (withStolen r l nothing)) []))))
 
+-- "Unitdata request: BL-UDATA, its FCS flag again not set, its own link id."
 unfoldable pub onUnitdata : Request → Link → Outcome (Done Link)
 onUnitdata r l =
     ask 6 (receiptFree r l)
@@ -136,9 +138,11 @@ abbrev pub answered : Frame → Option Bool → Link → Link
 answered f none l = l
 answered f (some nr) l = answeredBy nr (awaiting f l) l
 
+-- The link with other acknowledgements due.
 abbrev pub dueNow : Link → List Due → Link
 dueNow l ds = withQueues l (l .acknowledged) (l .unacknowledged) ds (l .receipts) (l .rows)
 
+-- A frame that passed questions 9 to 12: 13, 14, and what it does and sends up.
 unfoldable pub onReceived : Frame → Outcome Received → Link → Outcome (Done Link)
 onReceived f (refused n) l = refused n
 onReceived f (accepted r) l =
@@ -177,11 +181,13 @@ onReport i how l =
 abbrev pub releasable : ℕ → Link → Bool
 releasable i l = taken? final (placeAt (l .receipts) i) && not (held i l)
 
+-- "A release frees it."
 unfoldable pub onRelease : ℕ → Link → Outcome (Done Link)
 onRelease i l = ask 16 (releasable i l) (accepted (done (withReceipts l (set (l .receipts) i free)) []))
 
 -- Tick end: "four passes as in tick_end: resends, first sendings, replies, unacknowledged messages" ------------------------
 
+-- A message that stays as it is, with no record.
 abbrev pub stay : {S : Type 0} → S → Message → Visit S Message Record
 stay s m = record { state = s; stays = m ∷ []; out = [] }
 
@@ -206,6 +212,7 @@ leave ps m =
       out = [];
     }
 
+-- By its done time: "if now less done is T251 or more".
 abbrev pub agedBy : TdmaTime → ℕ → List Place → Message → Option TdmaTime → Visit (List Place) Message Record
 agedBy time t251 ps m none = stay ps m
 agedBy time t251 ps m (some t) =
@@ -219,6 +226,7 @@ pub record Sending : Type 0 where
   pub receipts : List Place
   pub blocked : List ℕ
 
+-- One that waits is handed down if no message of its SSI is under way.
 unfoldable pub firstSending : Sending → Message → Visit Sending Message Record
 firstSending s m =
     cond (m .submitted)
@@ -232,6 +240,7 @@ firstSending s m =
       out = acknowledged (m .sent) ∷ [];
     }))
 
+-- The first pass, and the second on what the first leaves.
 unfoldable pub retransmissions : Link → Visit (List Place) Message Record
 retransmissions l = walk (retransmission (l .time) (l .t251)) (l .receipts) (l .acknowledged)
 
@@ -239,6 +248,7 @@ unfoldable pub firstSendings : Link → Visit Sending Message Record
 firstSendings l =
     walk firstSending (record { receipts = retransmissions l .state; blocked = [] }) (retransmissions l .stays)
 
+-- The four passes: "resends, first sendings, replies, unacknowledged messages".
 unfoldable pub onTickEnd : Link → Done Link
 onTickEnd l =
     done
@@ -257,6 +267,7 @@ isStart (frame f) = false
 isStart (report receipt how) = false
 isStart (release receipt) = false
 
+-- What a call is asked after questions 4 and 5, and what it does.
 unfoldable pub act : Call → Link → Outcome (Done Link)
 act (start carrier t251) l = accepted (done (startedWith carrier t251) [])
 act (tickStart time) l = accepted (done (withTime l time) [])
