@@ -1,0 +1,8 @@
+pub mod Choices
+pub mod Digits
+pub mod Feeding
+pub mod Steps
+pub mod Writes
+pub mod RoundTrip
+pub mod Splitting
+pub mod Examples

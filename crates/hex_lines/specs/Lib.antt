@@ -1,0 +1,4 @@
+pub mod Lines
+pub mod Gathering
+pub mod Fed
+pub mod Wrote
