@@ -1,0 +1,5 @@
+pub mod Filled
+pub mod Laws
+pub mod Parts
+pub mod Sizes
+pub mod Spelled

@@ -1,0 +1,46 @@
+// Question 5: are the values of a call in range?
+ghost use mathlib.Core.Path.{_≡_};
+ghost use Rattle.llc_calls.specs.Ranges.{inRangeOf, requestRange, frameRange};
+use crate::Decoded;
+use crate::FrameCall;
+use crate::RequestCall;
+
+/// Are the values of a call in range? No for what is no call.
+pub fn in_range(call: Decoded) -> bool
+    ensures { λ r. ⌜ r ≡ inRangeOf call ⌝ }
+{
+    match call {
+        Decoded::Start(_, t251) => t251 != 0,
+        Decoded::TickStart(time) => time.is_valid(),
+        Decoded::TickEnd => true,
+        Decoded::DataRequest(q) => request_in_range(q),
+        Decoded::UnitdataRequest(q) => request_in_range(q),
+        Decoded::Frame(f) => frame_in_range(f),
+        Decoded::Report(receipt, how) => (receipt < 128) & ((how == 1) | (how == 2)),
+        Decoded::Release(receipt) => receipt < 128,
+        Decoded::Unfilled => false,
+        Decoded::Unknown => false,
+    }
+}
+
+// Type, carrier-given, carrier 0 if not given, flags, mask and 0 without flag 4, receipt, block and SDU.
+fn request_in_range(q: RequestCall) -> bool
+    ensures { λ r. ⌜ r ≡ requestRange q ⌝ }
+{
+    ((q.ssi_type == 1) | (q.ssi_type == 2))
+        & (q.given <= 1)
+        & ((q.given == 1) | (q.carrier == 0))
+        & (q.flags < 8)
+        & (q.mask < 16)
+        & ((q.flags / 4 % 2 == 1) | (q.mask == 0))
+        & (q.receipt < 128)
+        & (q.block_len <= 64)
+        & (q.sdu_len <= 2595)
+}
+
+// Type, block and PDU.
+fn frame_in_range(f: FrameCall) -> bool
+    ensures { λ r. ⌜ r ≡ frameRange f ⌝ }
+{
+    ((f.ssi_type == 1) | (f.ssi_type == 2)) & (f.block_len <= 64) & (f.pdu_len <= 2633)
+}
