@@ -1,0 +1,28 @@
+use Rattle.llc_rule.specs.Calls.{toBytes}
+use borrow.Author.Needs.{needs}
+use Rattle.llc_records.proofs.Wrote.{_⨾_}
+use Rattle.llc_records.proofs.records.put_head.Statement.{statement}
+use Rattle.llc_records.proofs.records.put_head.Tie as tie
+
+put-number-requires : tie.Need-put-number-requires
+unfolding toBytes
+put-number-requires c κs = search needs
+
+put-number-requires-2 : tie.Need-put-number-requires-2
+unfolding toBytes
+put-number-requires-2 c κs = search needs
+
+put-number-requires-3 : tie.Need-put-number-requires-3
+unfolding toBytes
+put-number-requires-3 c κs = search needs
+
+same-length : tie.Need-same-length
+same-length c = search needs
+
+returns : tie.Need-returns
+returns c = search (needs, _⨾_)
+
+pub put-head-spec : {M : Type 1} → statement M
+put-head-spec =
+    tie.close
+    (tie.spec put-number-requires put-number-requires-2 put-number-requires-3 same-length returns)
