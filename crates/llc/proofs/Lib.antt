@@ -1,0 +1,7 @@
+pub mod Maps
+pub mod Relaid
+pub mod TickEnd
+pub mod Calls
+pub mod Places
+pub mod Requests
+pub mod Steps

@@ -1,0 +1,6 @@
+pub mod Arrays
+pub mod States
+pub mod TickEnd
+pub mod Places
+pub mod Calls
+pub mod Steps

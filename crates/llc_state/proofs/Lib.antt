@@ -1,0 +1,6 @@
+pub mod AllLoops
+pub mod InRange
+pub mod Lengths
+pub mod Places
+pub mod RangeLoops
+pub mod View

@@ -1,0 +1,84 @@
+-- Receipts marked, taken and freed in a state are so in the link that lies in it.
+use Prim.Native.Nat.{ℕ, zero, suc}
+use mathlib.Core.Path.{_≡_, _∙_, refl, sym, ap}
+use mathlib.Core.Bool.{Bool, true, false, not}
+use mathlib.Core.List.{List, [], _∷_, map}
+use borrow.Author.Tests.{not-true, not-false}
+use lib.ListN.{set, List·getD-map}
+use Rattle.tx_receipt.specs.Marks.{at}
+use Rattle.tx_receipt.specs.declared.TxState.{TxState}
+use Rattle.tx_receipt.specs.declared.TxReceipt.{TxReceipt}
+use Rattle.llc_rule.specs.Messages.{Place, free, pending, marked, mark, placeAt}
+use Rattle.llc_rule.specs.Link.{withReceipts}
+use Rattle.llc_rule.proofs.Lists.{if-true, if-false}
+use Rattle.llc_state.specs.Ranges.{headInRange, inRange}
+use Rattle.llc_state.specs.Receipts.{withPlaces, markedPlace, pendingPlace, placeOf, markReceipt, takeReceipt, freeReceipt}
+use Rattle.llc_state.specs.States.{noReceipt}
+use Rattle.llc_state.specs.View.{placeIn, linkIn}
+use Rattle.llc_state.specs.declared.ReceiptPlace.{ReceiptPlace}
+use Rattle.llc_state.specs.declared.State.{State}
+
+-- A place that is not taken, and one that is.
+pub marked-free : (state : TxState) (p : ReceiptPlace) → not (p .taken) ≡ true → p ≡ markedPlace state p
+marked-free state p h = sym (if-false (record { taken = true; receipt = at state (p .receipt) }) p (not-true (p .taken) h))
+
+pub marked-taken :
+    (state : TxState) (p : ReceiptPlace)
+    → not (p .taken) ≡ false
+    → record { taken = true; receipt = at state (p .receipt) } ≡ markedPlace state p
+marked-taken state p h = sym (if-true (record { taken = true; receipt = at state (p .receipt) }) p (not-false (p .taken) h))
+
+-- A marked place as the link has it.
+marked-by :
+    (state : TxState) (b : Bool) (r : TxReceipt)
+    → placeIn (markedPlace state (record { taken = b; receipt = r })) ≡ marked state (placeIn (record { taken = b; receipt = r }))
+unfolding placeIn
+marked-by state true r = refl
+marked-by state false r = refl
+
+marked-in : (state : TxState) (p : ReceiptPlace) → placeIn (markedPlace state p) ≡ marked state (placeIn p)
+marked-in state p = marked-by state (p .taken) (p .receipt)
+
+map-set : {A B : Type 0} (f : A → B) (l : List A) (i : ℕ) (x : A) → map f (set l i x) ≡ set (map f l) i (f x)
+map-set f [] i x = refl
+map-set f (y ∷ l) zero x = refl
+map-set f (y ∷ l) (suc i) x = ap (λ (m : List _). f y ∷ m) (map-set f l i x)
+
+-- The link with one place written.
+set-in :
+    (s : State) (store : List ℕ) (i : ℕ) (p : ReceiptPlace)
+    → linkIn (withPlaces s (set (s .receipts) i p)) store
+    ≡ withReceipts (linkIn s store) (set (linkIn s store .receipts) i (placeIn p))
+unfolding linkIn
+set-in s store i p = rw (map-set placeIn (s .receipts) i p)
+
+place-in : (s : State) (store : List ℕ) (i : ℕ) → placeAt (linkIn s store .receipts) i ≡ placeIn (placeOf s i)
+unfolding linkIn placeIn
+place-in s store i = List·getD-map placeIn (s .receipts) i noReceipt
+
+pub mark-receipt-in :
+    (s : State) (store : List ℕ) (i : ℕ) (state : TxState)
+    → linkIn (markReceipt s i state) store ≡ withReceipts (linkIn s store) (mark state i (linkIn s store .receipts))
+mark-receipt-in s store i state =
+    set-in s store i (markedPlace state (placeOf s i))
+    ∙ ap
+    (λ (p : Place). withReceipts (linkIn s store) (set (linkIn s store .receipts) i p))
+    (marked-in state (placeOf s i) ∙ ap (λ (p : Place). marked state p) (sym (place-in s store i)))
+
+pub take-receipt-in :
+    (s : State) (store : List ℕ) (i : ℕ) (expects : Bool)
+    → linkIn (takeReceipt s i expects) store
+    ≡ withReceipts (linkIn s store) (set (linkIn s store .receipts) i (pending expects))
+unfolding placeIn
+take-receipt-in s store i expects = set-in s store i (pendingPlace expects)
+
+pub free-receipt-in :
+    (s : State) (store : List ℕ) (i : ℕ)
+    → linkIn (freeReceipt s i) store ≡ withReceipts (linkIn s store) (set (linkIn s store .receipts) i free)
+unfolding placeIn
+free-receipt-in s store i = set-in s store i noReceipt
+
+-- The values in use are not touched.
+pub places-in-range : (s : State) (ps : List ReceiptPlace) → inRange (withPlaces s ps) ≡ inRange s
+unfolding inRange headInRange
+places-in-range s ps = refl

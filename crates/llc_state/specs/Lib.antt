@@ -1,0 +1,4 @@
+pub mod Ranges
+pub mod Receipts
+pub mod States
+pub mod View

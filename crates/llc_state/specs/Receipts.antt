@@ -1,0 +1,50 @@
+-- A state with one receipt marked, taken or freed.
+use Prim.Native.Nat.{ℕ}
+use mathlib.Core.Bool.{Bool, true, cond}
+use mathlib.Core.List.{List}
+use lib.ListN.{getD, set}
+use Rattle.tx_receipt.specs.Marks.{at}
+use Rattle.tx_receipt.specs.declared.TxState.{TxState}
+use Rattle.tx_receipt.specs.declared.TxState.the-variants.{Pending}
+use Rattle.llc_state.specs.declared.ReceiptPlace.{ReceiptPlace}
+use Rattle.llc_state.specs.declared.State.{State}
+use Rattle.llc_state.specs.States.{noReceipt}
+
+-- A state with other receipts.
+abbrev pub withPlaces : State → List ReceiptPlace → State
+withPlaces s ps =
+    record {
+      started = s .started;
+      «main_carrier» = s .«main_carrier»;
+      t251 = s .t251;
+      dltime = s .dltime;
+      «n_messages» = s .«n_messages»;
+      «outbound_messages» = s .«outbound_messages»;
+      «n_udata» = s .«n_udata»;
+      «outbound_udata_messages» = s .«outbound_udata_messages»;
+      «n_acks» = s .«n_acks»;
+      «scheduled_out_acks» = s .«scheduled_out_acks»;
+      receipts = ps;
+      «n_rows» = s .«n_rows»;
+      «link_send_seq» = s .«link_send_seq»;
+    }
+
+-- A place whose receipt is in another state, if it is taken; a place that is taken anew.
+abbrev pub markedPlace : TxState → ReceiptPlace → ReceiptPlace
+markedPlace state p = cond (p .taken) (record { taken = true; receipt = at state (p .receipt) }) p
+
+abbrev pub pendingPlace : Bool → ReceiptPlace
+pendingPlace expects = record { taken = true; receipt = record { «expects_ack» = expects; state = Pending } }
+
+-- The place with a number.
+abbrev pub placeOf : State → ℕ → ReceiptPlace
+placeOf s i = getD (s .receipts) i noReceipt
+
+abbrev pub markReceipt : State → ℕ → TxState → State
+markReceipt s i state = withPlaces s (set (s .receipts) i (markedPlace state (placeOf s i)))
+
+abbrev pub takeReceipt : State → ℕ → Bool → State
+takeReceipt s i expects = withPlaces s (set (s .receipts) i (pendingPlace expects))
+
+abbrev pub freeReceipt : State → ℕ → State
+freeReceipt s i = withPlaces s (set (s .receipts) i noReceipt)

@@ -1,0 +1,77 @@
+-- How a link lies in a state and a store: what the arrays and the bits of the store hold, as the lists that `step` is about.
+use Prim.Native.Nat.{ℕ, _*_}
+use mathlib.Core.Bool.{cond}
+use mathlib.Core.List.{List, map}
+use mathlib.Core.Option.{none, some}
+use lib.ListN.{take}
+use Rattle.bits.specs.Bits.{part}
+use Rattle.llc_rule.specs.Records.{Sent}
+use Rattle.llc_rule.specs.Messages.{Message, Due, Place, free, taken}
+use Rattle.llc_rule.specs.Link.{Link, Row}
+use Rattle.llc_state.specs.declared.Entry.{Entry}
+use Rattle.llc_state.specs.declared.ScheduledOutAck.{ScheduledOutAck}
+use Rattle.llc_state.specs.declared.ReceiptPlace.{ReceiptPlace}
+use Rattle.llc_state.specs.declared.LinkSendSeq.{LinkSendSeq}
+use Rattle.llc_state.specs.declared.State.{State}
+
+-- "Frame bits lie in the store, 96 places of 336 bytes": where a place begins, in bits.
+abbrev pub placeBit : ℕ → ℕ
+placeBit p = 8 * (336 * p)
+
+-- The frame of a message.
+unfoldable pub frameIn : List ℕ → Entry → List ℕ
+frameIn store e = part store (placeBit (e .place)) (e .len)
+
+-- A message as it is handed down.
+unfoldable pub sentIn : List ℕ → Entry → Sent
+sentIn store e =
+    record {
+      ssi = e .ssi;
+      type = e .«ssi_type»;
+      carrier = e .«carrier_num»;
+      link = e .«link_id»;
+      endpoint = e .«endpoint_id»;
+      handle = e .«req_handle»;
+      steal = e .«stealing_permission»;
+      mask = cond (e .«has_mask») (some (e .mask)) none;
+      receipt = e .receipt;
+      block = take (e .«block_len») (e .block);
+      pdu = frameIn store e;
+    }
+
+-- An acknowledged message.
+unfoldable pub messageIn : List ℕ → Entry → Message
+messageIn store e =
+    record {
+      sent = sentIn store e;
+      ns = e .ns;
+      submitted = e .«submitted_to_umac»;
+      done = cond (e .«has_umac_done») (some (e .«t_umac_done»)) none;
+      resends = e .«retransmit_count»;
+    }
+
+-- An acknowledgement that is due.
+unfoldable pub dueIn : ScheduledOutAck → Due
+dueIn a = record { ssi = a .ssi; type = a .«ssi_type»; carrier = a .«carrier_num»; nr = a .nr; slot = a .ts }
+
+-- The place of a receipt, and an address row.
+unfoldable pub placeIn : ReceiptPlace → Place
+placeIn p = cond (p .taken) (taken (p .receipt)) free
+
+unfoldable pub rowIn : LinkSendSeq → Row
+rowIn r = record { ssi = r .ssi; bit = r .vs }
+
+-- The link.
+unfoldable pub linkIn : State → List ℕ → Link
+linkIn s store =
+    record {
+      started = s .started;
+      carrier = s .«main_carrier»;
+      t251 = s .t251;
+      time = s .dltime;
+      acknowledged = map (messageIn store) (take (s .«n_messages») (s .«outbound_messages»));
+      unacknowledged = map (sentIn store) (take (s .«n_udata») (s .«outbound_udata_messages»));
+      due = map dueIn (take (s .«n_acks») (s .«scheduled_out_acks»));
+      receipts = map placeIn (s .receipts);
+      rows = map rowIn (take (s .«n_rows») (s .«link_send_seq»));
+    }
