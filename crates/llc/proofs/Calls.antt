@@ -25,12 +25,13 @@ use Rattle.llc_state.specs.declared.ScheduledOutAck.{ScheduledOutAck}
 use Rattle.llc_state.specs.declared.ReceiptPlace.{ReceiptPlace}
 use Rattle.llc_state.specs.declared.State.{State}
 use Rattle.llc.specs.States.{messagesOf, udataOf, acksOf, rowsOf, relaid, Kept}
-use Rattle.llc.specs.TickEnd.{placeOf, mark}
+use Rattle.llc_state.specs.Receipts.{placeOf, mark}
+use Rattle.llc_state.proofs.Places.{mark-in, taken-in}
 use Rattle.llc.specs.Calls.{ackRoom, scheduled, expected, fits, finishable, mayFinish, answeredBy, answered, onReceived, held, waits, withReceipts, onReport, onRelease}
 use Rattle.llc_state.specs.States.{noReceipt}
-use Rattle.llc.proofs.Maps.{map-append, map-set, mapFound, find-map, any-map}
+use Rattle.llc_state.proofs.Maps.{map-append, map-set, mapFound, find-map, any-map}
 use Rattle.llc.proofs.Relaid.{relaid-in}
-use Rattle.llc.proofs.TickEnd.{mark-in, taken-in, has-time}
+use Rattle.llc.proofs.TickEnd.{has-time}
 
 -- What a call leaves, as a link.
 unfoldable pub keptIn : Outcome Kept → Outcome (Done Link.Link)

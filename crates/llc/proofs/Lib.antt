@@ -1,4 +1,3 @@
-pub mod Maps
 pub mod Relaid
 pub mod TickEnd
 pub mod Calls

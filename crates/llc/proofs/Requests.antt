@@ -35,13 +35,12 @@ use Rattle.llc_state.specs.declared.LinkSendSeq.{LinkSendSeq}
 use Rattle.llc_state.specs.declared.State.{State}
 use Rattle.llc.specs.States.{messagesOf, udataOf, acksOf, rowsOf}
 use Rattle.llc.specs.Places.{freePlace}
-use Rattle.llc.specs.TickEnd.{placeOf}
 use Rattle.llc.specs.Calls.{entryOf, carrierFor, ackFor, seqOf, withSeq, dataPdu, withAcknowledged, withUnacknowledged, withStolen, receiptFree, rowFor, onData, onUnitdata}
-use Rattle.llc_state.specs.Receipts.{pendingPlace}
-use Rattle.llc.proofs.Maps.{map-append, map-set, mapFound, find-map, any-map, others-map}
+use Rattle.llc_state.specs.Receipts.{pendingPlace, placeOf}
+use Rattle.llc_state.proofs.Maps.{map-append, map-set, mapFound, find-map, any-map, others-map}
 use Rattle.llc.proofs.Relaid.{relaid-in}
 use Rattle.llc.proofs.Places.{free-place, part-there, frame-elsewhere}
-use Rattle.llc.proofs.TickEnd.{place-in}
+use Rattle.llc_state.proofs.Places.{place-in}
 use Rattle.llc.proofs.Calls.{keptIn, kept-ask, Counted}
 
 -- Rows.

@@ -6,12 +6,9 @@ use mathlib.Core.Bool.{Bool, true, false, cond, not, _&&_}
 use mathlib.Core.List.{List, [], _∷_, _++_, map}
 use mathlib.Core.Option.{none, some}
 use lib.Dec.{ltb}
-use lib.ListN.{set, List·getD-map}
 use Rattle.tdma_time.specs.declared.TdmaTime.{TdmaTime}
 use Rattle.tx_receipt.specs.States.{is}
-use Rattle.tx_receipt.specs.declared.TxState.{TxState}
 use Rattle.tx_receipt.specs.declared.TxState.the-variants.{Pending, Transmitted, Lost}
-use Rattle.tx_receipt.specs.declared.TxReceipt.{TxReceipt}
 use Rattle.llc_rule.specs.Lists.{among, Visit, _then_, walk}
 use Rattle.llc_rule.specs.Records.{Record, acknowledged, unacknowledged}
 use Rattle.llc_rule.specs.Messages as Rule
@@ -24,11 +21,11 @@ use Rattle.llc_state.specs.declared.Entry.{Entry}
 use Rattle.llc_state.specs.declared.ReceiptPlace.{ReceiptPlace}
 use Rattle.llc_state.specs.declared.State.{State}
 use Rattle.llc.specs.States.{messagesOf, udataOf, acksOf, rowsOf}
-use Rattle.llc_state.specs.States.{noReceipt}
-use Rattle.llc_state.specs.Receipts.{markedPlace}
-use Rattle.llc.proofs.Maps.{map-append, map-map, map-set}
+use Rattle.llc_state.specs.Receipts.{placeOf, mark}
+use Rattle.llc_state.proofs.Places.{mark-in, taken-in}
+use Rattle.llc_state.proofs.Maps.{map-append, map-map}
 use Rattle.llc.proofs.Relaid.{relaid-in}
-use Rattle.llc.specs.TickEnd.{submitted, doneAt, placeOf, mark, timed, stay, resend, leave, aged, retransmission, Sending, firstSending, retransmissions, firstSendings, ticked, tickRecords}
+use Rattle.llc.specs.TickEnd.{submitted, doneAt, timed, stay, resend, leave, aged, retransmission, Sending, firstSending, retransmissions, firstSendings, ticked, tickRecords}
 
 -- A walk seen through views of its state, its elements and what it puts out.
 module _ {S T A B R Q : Type 0} (state : S → T) (element : A → B) (put : R → Q) where
@@ -50,37 +47,6 @@ module _ {S T A B R Q : Type 0} (state : S → T) (element : A → B) (put : R �
           stays = sym (map-append element (v .stays) (w .stays)) i;
           out = sym (map-append put (v .out) (w .out)) i;
         })
-
--- Receipts.
-pub place-in : (ps : List ReceiptPlace) (i : ℕ) → Rule.placeAt (map placeIn ps) i ≡ placeIn (placeOf ps i)
-unfolding placeIn
-place-in ps i = List·getD-map placeIn ps i noReceipt
-
-marked-by :
-    (s : TxState) (b : Bool) (r : TxReceipt)
-    → placeIn (markedPlace s (record { taken = b; receipt = r })) ≡ Rule.marked s (placeIn (record { taken = b; receipt = r }))
-unfolding placeIn
-marked-by s true r = refl
-marked-by s false r = refl
-
-marked-in : (s : TxState) (p : ReceiptPlace) → placeIn (markedPlace s p) ≡ Rule.marked s (placeIn p)
-marked-in s p = marked-by s (p .taken) (p .receipt)
-
-pub mark-in : (s : TxState) (i : ℕ) (ps : List ReceiptPlace) → map placeIn (mark s i ps) ≡ Rule.mark s i (map placeIn ps)
-mark-in s i ps =
-    map-set placeIn ps i (markedPlace s (placeOf ps i))
-    ∙ ap (set (map placeIn ps) i) (marked-in s (placeOf ps i) ∙ ap (Rule.marked s) (sym (place-in ps i)))
-
-taken-by : (t : TxReceipt → Bool) (b : Bool) (r : TxReceipt) → Rule.taken? t (placeIn (record { taken = b; receipt = r })) ≡ b && t r
-unfolding placeIn
-taken-by t true r = refl
-taken-by t false r = refl
-
-pub taken-in :
-    (t : TxReceipt → Bool) (ps : List ReceiptPlace) (i : ℕ)
-    → placeOf ps i .taken && t (placeOf ps i .receipt) ≡ Rule.taken? t (Rule.placeAt (map placeIn ps) i)
-taken-in t ps i =
-    sym (ap (Rule.taken? t) (place-in ps i) ∙ taken-by t (placeOf ps i .taken) (placeOf ps i .receipt))
 
 pub has-time : (b : Bool) (t : TdmaTime) → Rule.hasTime (cond b (some t) none) ≡ b
 has-time true t = refl

@@ -21,7 +21,7 @@ use Rattle.llc_rule.specs.Received.{Received, nsOf, nrOf, upward}
 use Rattle.llc_rule.specs.Messages.{carrierOf, slotBefore}
 use Rattle.llc_rule.specs.Step.{onAcknowledgedPath}
 use Rattle.llc_state.specs.States.{noReceipt}
-use Rattle.llc_state.specs.Receipts.{pendingPlace}
+use Rattle.llc_state.specs.Receipts.{pendingPlace, placeOf, mark}
 use Rattle.llc_state.specs.View.{placeBit}
 use Rattle.llc_state.specs.declared.Entry.{Entry}
 use Rattle.llc_state.specs.declared.ScheduledOutAck.{ScheduledOutAck}
@@ -30,7 +30,6 @@ use Rattle.llc_state.specs.declared.LinkSendSeq.{LinkSendSeq}
 use Rattle.llc_state.specs.declared.State.{State}
 use Rattle.llc.specs.States.{messagesOf, udataOf, acksOf, rowsOf, relaid, Kept, kept}
 use Rattle.llc.specs.Places.{freePlace}
-use Rattle.llc.specs.TickEnd.{placeOf, mark}
 
 -- Requests ----------------------------------------------------------------------------------------------------------------
 

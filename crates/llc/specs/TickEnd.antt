@@ -3,16 +3,13 @@ use Prim.Native.Nat.{ℕ, _+_}
 use mathlib.Core.Bool.{true, false, cond, not, _&&_}
 use mathlib.Core.List.{List, [], _∷_, _++_, map}
 use lib.Dec.{ltb}
-use lib.ListN.{getD, set}
 use Rattle.tdma_time.specs.declared.TdmaTime.{TdmaTime}
 use Rattle.tx_receipt.specs.States.{is}
-use Rattle.tx_receipt.specs.declared.TxState.{TxState}
 use Rattle.tx_receipt.specs.declared.TxState.the-variants.{Pending, Transmitted, Lost}
 use Rattle.llc_rule.specs.Lists.{among, Visit, walk}
 use Rattle.llc_rule.specs.Records.{Record, acknowledged, unacknowledged}
 use Rattle.llc_rule.specs.Messages.{overdue, reported, replyTo}
-use Rattle.llc_state.specs.States.{noReceipt}
-use Rattle.llc_state.specs.Receipts.{markedPlace}
+use Rattle.llc_state.specs.Receipts.{placeOf, mark}
 use Rattle.llc_state.specs.View.{sentIn, dueIn}
 use Rattle.llc_state.specs.declared.Entry.{Entry}
 use Rattle.llc_state.specs.declared.ScheduledOutAck.{ScheduledOutAck}
@@ -68,13 +65,6 @@ doneAt t e =
       «t_umac_done» = t;
       «retransmit_count» = e .«retransmit_count»;
     }
-
--- The place of a receipt, and the receipts with that one marked if it is taken.
-abbrev pub placeOf : List ReceiptPlace → ℕ → ReceiptPlace
-placeOf ps i = getD ps i noReceipt
-
-abbrev pub mark : TxState → ℕ → List ReceiptPlace → List ReceiptPlace
-mark s i ps = set ps i (markedPlace s (placeOf ps i))
 
 -- One message of the first pass, submit_retransmissions_to_umac.
 abbrev pub timed : TdmaTime → List ReceiptPlace → Entry → Entry

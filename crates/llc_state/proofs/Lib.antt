@@ -1,6 +1,7 @@
 pub mod AllLoops
 pub mod InRange
 pub mod Lengths
+pub mod Maps
 pub mod Places
 pub mod RangeLoops
 pub mod View

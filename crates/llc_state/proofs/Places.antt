@@ -1,20 +1,21 @@
 -- Receipts marked, taken and freed in a state are so in the link that lies in it.
-use Prim.Native.Nat.{ℕ, zero, suc}
+use Prim.Native.Nat.{ℕ}
 use mathlib.Core.Path.{_≡_, _∙_, refl, sym, ap}
-use mathlib.Core.Bool.{Bool, true, false, not}
-use mathlib.Core.List.{List, [], _∷_, map}
+use mathlib.Core.Bool.{Bool, true, false, not, _&&_}
+use mathlib.Core.List.{List, map}
 use borrow.Author.Tests.{not-true, not-false}
 use lib.ListN.{set, List·getD-map}
 use Rattle.tx_receipt.specs.Marks.{at}
 use Rattle.tx_receipt.specs.declared.TxState.{TxState}
 use Rattle.tx_receipt.specs.declared.TxReceipt.{TxReceipt}
-use Rattle.llc_rule.specs.Messages.{Place, free, pending, marked, mark, placeAt}
+use Rattle.llc_rule.specs.Messages.{free, pending, taken?, marked, mark, placeAt}
 use Rattle.llc_rule.specs.Link.{withReceipts}
 use Rattle.llc_rule.proofs.Lists.{if-true, if-false}
 use Rattle.llc_state.specs.Ranges.{headInRange, inRange}
-use Rattle.llc_state.specs.Receipts.{withPlaces, markedPlace, pendingPlace, placeOf, markReceipt, takeReceipt, freeReceipt}
+use Rattle.llc_state.specs.Receipts.{withPlaces, markedPlace, pendingPlace, placeOf, mark as markPlaces, markReceipt, takeReceipt, freeReceipt}
 use Rattle.llc_state.specs.States.{noReceipt}
 use Rattle.llc_state.specs.View.{placeIn, linkIn}
+use Rattle.llc_state.proofs.Maps.{map-set}
 use Rattle.llc_state.specs.declared.ReceiptPlace.{ReceiptPlace}
 use Rattle.llc_state.specs.declared.State.{State}
 
@@ -39,10 +40,27 @@ marked-by state false r = refl
 marked-in : (state : TxState) (p : ReceiptPlace) → placeIn (markedPlace state p) ≡ marked state (placeIn p)
 marked-in state p = marked-by state (p .taken) (p .receipt)
 
-map-set : {A B : Type 0} (f : A → B) (l : List A) (i : ℕ) (x : A) → map f (set l i x) ≡ set (map f l) i (f x)
-map-set f [] i x = refl
-map-set f (y ∷ l) zero x = refl
-map-set f (y ∷ l) (suc i) x = ap (λ (m : List _). f y ∷ m) (map-set f l i x)
+-- The place with a number, the places with one marked, and what a test says of a receipt that is taken.
+pub place-in : (ps : List ReceiptPlace) (i : ℕ) → placeAt (map placeIn ps) i ≡ placeIn (placeOf ps i)
+unfolding placeIn
+place-in ps i = List·getD-map placeIn ps i noReceipt
+
+pub mark-in : (state : TxState) (i : ℕ) (ps : List ReceiptPlace) → map placeIn (markPlaces state i ps) ≡ mark state i (map placeIn ps)
+mark-in state i ps =
+    map-set placeIn ps i (markedPlace state (placeOf ps i))
+    ∙ ap (set (map placeIn ps) i) (marked-in state (placeOf ps i) ∙ ap (marked state) (sym (place-in ps i)))
+
+taken-by :
+    (t : TxReceipt → Bool) (b : Bool) (r : TxReceipt)
+    → taken? t (placeIn (record { taken = b; receipt = r })) ≡ b && t r
+unfolding placeIn
+taken-by t true r = refl
+taken-by t false r = refl
+
+pub taken-in :
+    (t : TxReceipt → Bool) (ps : List ReceiptPlace) (i : ℕ)
+    → placeOf ps i .taken && t (placeOf ps i .receipt) ≡ taken? t (placeAt (map placeIn ps) i)
+taken-in t ps i = sym (ap (taken? t) (place-in ps i) ∙ taken-by t (placeOf ps i .taken) (placeOf ps i .receipt))
 
 -- The link with one place written.
 set-in :
@@ -52,18 +70,11 @@ set-in :
 unfolding linkIn
 set-in s store i p = rw (map-set placeIn (s .receipts) i p)
 
-place-in : (s : State) (store : List ℕ) (i : ℕ) → placeAt (linkIn s store .receipts) i ≡ placeIn (placeOf s i)
-unfolding linkIn placeIn
-place-in s store i = List·getD-map placeIn (s .receipts) i noReceipt
-
 pub mark-receipt-in :
     (s : State) (store : List ℕ) (i : ℕ) (state : TxState)
     → linkIn (markReceipt s i state) store ≡ withReceipts (linkIn s store) (mark state i (linkIn s store .receipts))
-mark-receipt-in s store i state =
-    set-in s store i (markedPlace state (placeOf s i))
-    ∙ ap
-    (λ (p : Place). withReceipts (linkIn s store) (set (linkIn s store .receipts) i p))
-    (marked-in state (placeOf s i) ∙ ap (λ (p : Place). marked state p) (sym (place-in s store i)))
+unfolding linkIn
+mark-receipt-in s store i state = rw (mark-in state i (s .receipts))
 
 pub take-receipt-in :
     (s : State) (store : List ℕ) (i : ℕ) (expects : Bool)

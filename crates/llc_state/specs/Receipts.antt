@@ -36,12 +36,15 @@ markedPlace state p = cond (p .taken) (record { taken = true; receipt = at state
 abbrev pub pendingPlace : Bool → ReceiptPlace
 pendingPlace expects = record { taken = true; receipt = record { «expects_ack» = expects; state = Pending } }
 
--- The place with a number.
-abbrev pub placeOf : State → ℕ → ReceiptPlace
-placeOf s i = getD (s .receipts) i noReceipt
+-- The place with a number, and the places with the receipt there marked if it is taken.
+abbrev pub placeOf : List ReceiptPlace → ℕ → ReceiptPlace
+placeOf ps i = getD ps i noReceipt
+
+abbrev pub mark : TxState → ℕ → List ReceiptPlace → List ReceiptPlace
+mark state i ps = set ps i (markedPlace state (placeOf ps i))
 
 abbrev pub markReceipt : State → ℕ → TxState → State
-markReceipt s i state = withPlaces s (set (s .receipts) i (markedPlace state (placeOf s i)))
+markReceipt s i state = withPlaces s (mark state i (s .receipts))
 
 abbrev pub takeReceipt : State → ℕ → Bool → State
 takeReceipt s i expects = withPlaces s (set (s .receipts) i (pendingPlace expects))
