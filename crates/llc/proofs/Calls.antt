@@ -5,7 +5,7 @@ use mathlib.Core.Bool.{Bool, true, false, cond, not, _&&_, _||_, Bool·beq}
 use mathlib.Core.List.{List, [], _∷_, map}
 use mathlib.Core.Option.{Option, none, some}
 use lib.Dec.{eqb, ltb}
-use lib.ListN.{length, set, length-map}
+use lib.ListN.{set, length-map}
 use Rattle.questions.specs.Outcome.{Outcome, accepted, refused, ask}
 use Rattle.tx_receipt.specs.States.{is, final}
 use Rattle.tx_receipt.specs.declared.TxState.the-variants.{Pending, Discarded, Transmitted, Acknowledged}
@@ -15,7 +15,7 @@ use Rattle.llc_rule.specs.Records.{Sent}
 use Rattle.llc_rule.specs.Received.{Received, nsOf, nrOf, upward}
 use Rattle.llc_rule.specs.Messages as Rule
 use Rattle.llc_rule.specs.Messages.{Message, Due, Place}
-use Rattle.llc_rule.specs.Done.{Done, done}
+use Rattle.llc_rule.specs.Done.{done}
 use Rattle.llc_rule.specs.Link as Link
 use Rattle.llc_rule.specs.Step as Step
 use Rattle.llc_rule.proofs.Lists.{ap-cond}
@@ -30,25 +30,14 @@ use Rattle.llc_state.proofs.Places.{mark-in, taken-in}
 use Rattle.llc.specs.Calls.{ackRoom, scheduled, expected, fits, finishable, mayFinish, answeredBy, answered, onReceived, held, waits, withReceipts, onReport, onRelease}
 use Rattle.llc_state.specs.States.{noReceipt}
 use Rattle.llc_state.proofs.Maps.{map-append, map-set, mapFound, find-map, any-map}
+use Rattle.llc.specs.Holds.{keptIn, Counted}
 use Rattle.llc.proofs.Relaid.{relaid-in}
 use Rattle.llc.proofs.TickEnd.{has-time}
-
--- What a call leaves, as a link.
-unfoldable pub keptIn : Outcome Kept → Outcome (Done Link.Link)
-keptIn (accepted k) = accepted (done (linkIn (k .state) (k .store)) (k .records))
-keptIn (refused n) = refused n
 
 pub kept-ask : (n : ℕ) (b : Bool) (o : Outcome Kept) → keptIn (ask n b o) ≡ ask n b (keptIn o)
 unfolding keptIn
 kept-ask n true o = refl
 kept-ask n false o = refl
-
--- The counts are those of the elements in use.
-pub record Counted (s : State) : Type 0 where
-  pub messages : length (messagesOf s) ≡ s .«n_messages»
-  pub udata : length (udataOf s) ≡ s .«n_udata»
-  pub acks : length (acksOf s) ≡ s .«n_acks»
-  pub rows : length (rowsOf s) ≡ s .«n_rows»
 
 empty-in : placeIn noReceipt ≡ Rule.free
 unfolding placeIn
@@ -73,10 +62,6 @@ module _ (s : State) (store : List ℕ) where
   receipts-in : (ps : List ReceiptPlace) → linkIn (withReceipts s ps) store ≡ Link.withReceipts (linkIn s store) (map placeIn ps)
   unfolding linkIn
   receipts-in ps = relaid-in s store (messagesOf s) (udataOf s) (acksOf s) ps (rowsOf s)
-
-  link-receipts : linkIn s store .receipts ≡ map placeIn (s .receipts)
-  unfolding linkIn
-  link-receipts = refl
 
   pub report-in : (i how : ℕ) → keptIn (onReport i how s store) ≡ Step.onReport i how (linkIn s store)
   unfolding onReport Step.onReport keptIn linkIn

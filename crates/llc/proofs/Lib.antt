@@ -4,3 +4,4 @@ pub mod Calls
 pub mod Places
 pub mod Requests
 pub mod Steps
+pub mod Ready

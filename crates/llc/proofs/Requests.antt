@@ -1,5 +1,5 @@
 -- A request on the entries is the request on the link that they hold.
-use Prim.Native.Nat.{ℕ, _+_, _*_, _-_, _≤_, _<_}
+use Prim.Native.Nat.{ℕ, _+_, _-_, _≤_, _<_}
 use native.Mathlib.Omega.{arith}
 use mathlib.Core.Path.{_≡_, _∙_, refl, sym, ap, ap₂}
 use mathlib.Core.Bool.{Bool, true, false, cond, not, _&&_, _||_}
@@ -38,10 +38,11 @@ use Rattle.llc.specs.Places.{freePlace}
 use Rattle.llc.specs.Calls.{entryOf, carrierFor, ackFor, seqOf, withSeq, dataPdu, withAcknowledged, withUnacknowledged, withStolen, receiptFree, rowFor, onData, onUnitdata}
 use Rattle.llc_state.specs.Receipts.{pendingPlace, placeOf}
 use Rattle.llc_state.proofs.Maps.{map-append, map-set, mapFound, find-map, any-map, others-map}
+use Rattle.llc.specs.Holds.{keptIn, Ready}
 use Rattle.llc.proofs.Relaid.{relaid-in}
 use Rattle.llc.proofs.Places.{free-place, part-there, frame-elsewhere}
 use Rattle.llc_state.proofs.Places.{place-in}
-use Rattle.llc.proofs.Calls.{keptIn, kept-ask, Counted}
+use Rattle.llc.proofs.Calls.{kept-ask}
 
 -- Rows.
 seq-in : (a : ℕ) (rs : List LinkSendSeq) → Link.bitOf a (map rowIn rs) ≡ seqOf a rs
@@ -218,15 +219,6 @@ module _ (r : Request) (s : State) (store : List ℕ) (short : length (r .block)
       ∙ (λ i.
       Link.withQueues (linkIn s store) (messages-same pdu after ok i) (sents i) (map dueIn ds) (places i) (map rowIn (rowsOf s)))
 
--- A state and a store of which question 1 was passed, as far as a request needs it.
-pub record Ready (s : State) (store : List ℕ) : Type 0 where
-  pub counted : Counted s
-  pub long : length store ≡ 8 * 32256
-  pub messages : All (λ (e : Entry). (e .place < 96) × (e .len ≤ 2601)) (messagesOf s)
-  pub udata : All (λ (e : Entry). (e .place < 96) × (e .len ≤ 2601)) (udataOf s)
-  pub few : s .«n_messages» ≤ 64
-  pub fewToo : s .«n_udata» ≤ 32
-
 all-both : {A : Type 0} (P Q R : A → Type 0) (l : List A) → ((x : A) → P x → Q x → R x) → All P l → All Q l → All R l
 all-both P Q R [] f p q = tt
 all-both P Q R (x ∷ l) f p q = (f x (p .0) (q .0), all-both P Q R l f (p .1) (q .1))
@@ -306,10 +298,6 @@ module _ (r : Request) (s : State) (store : List ℕ) (ok : Ready s store) (bloc
       ap (λ (l : Link.Link). accepted (done l []))
       (with-acknowledged-in r s store block
       (placed s store (header p ++ r .sdu) ok (omega (arith, ltb-true (s .«n_messages») 64 room, ok .fewToo)) (pdu-short p)))
-
-  due-in : map dueIn (acksOf s) ≡ linkIn s store .due
-  unfolding linkIn
-  due-in = refl
 
   stolen-kept :
       (x : Found ScheduledOutAck)

@@ -16,8 +16,9 @@ use Rattle.llc_state.specs.declared.State.{State}
 use Rattle.llc_state.proofs.View.{started-in, time-in}
 use Rattle.llc.specs.Steps.{acts, called, steps}
 use Rattle.llc.proofs.TickEnd.{ticked-in, records-in}
-use Rattle.llc.proofs.Calls.{keptIn, kept-ask, received-in, report-in, release-in}
-use Rattle.llc.proofs.Requests.{Ready, ask-same, data-in, unitdata-in}
+use Rattle.llc.specs.Holds.{keptIn, Ready}
+use Rattle.llc.proofs.Calls.{kept-ask, received-in, report-in, release-in}
+use Rattle.llc.proofs.Requests.{ask-same, data-in, unitdata-in}
 
 acts-in : (c : Call) (s : State) (store : List ℕ) → Ready s store → inRange c ≡ true → keptIn (acts c s store) ≡ Step.act c (linkIn s store)
 unfolding acts Step.act keptIn inRange Step.onFrame

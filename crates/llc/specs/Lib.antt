@@ -4,3 +4,4 @@ pub mod TickEnd
 pub mod Places
 pub mod Calls
 pub mod Steps
+pub mod Holds

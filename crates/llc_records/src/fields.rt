@@ -39,7 +39,7 @@ fn put_bytes(out: &mut [u8], at: usize, n: usize, v: u32) -> usize
 }
 
 // A number of n bytes as a field.
-pub fn put_number(out: &mut [u8], at: usize, tag: u8, n: usize, v: u32) -> usize
+pub(crate) fn put_number(out: &mut [u8], at: usize, tag: u8, n: usize, v: u32) -> usize
     requires { ⌜ n ≤ 4 ⌝ }
     requires { ⌜ at + 3 + n ≤ length (now out) ⌝ }
     ensures { λ r. ⌜ Wrote (now (out .entry)) at (number tag n v) (now (out .exit)) r ⌝ }
@@ -64,7 +64,7 @@ fn put_copy(out: &mut [u8], at: usize, src: &[u8], from: usize, n: usize) -> usi
 }
 
 // A block as field 0B.
-pub fn put_block(out: &mut [u8], at: usize, blocks: &[u8], block: usize, len: usize) -> usize
+pub(crate) fn put_block(out: &mut [u8], at: usize, blocks: &[u8], block: usize, len: usize) -> usize
     requires { ⌜ len < 2 ^ 16 ⌝ }
     requires { ⌜ at + 3 + len ≤ length (now out) ⌝ }
     requires { ⌜ block + len ≤ length (now blocks) ⌝ }
@@ -111,7 +111,13 @@ fn put_packed(out: &mut [u8], at: usize, frames: &[u8], first: usize, len: usize
 }
 
 // Bits from a place on behind their count, as field 0C.
-pub fn put_counted(out: &mut [u8], at: usize, frames: &[u8], first: usize, len: usize) -> usize
+pub(crate) fn put_counted(
+    out: &mut [u8],
+    at: usize,
+    frames: &[u8],
+    first: usize,
+    len: usize,
+) -> usize
     requires { ⌜ len < 2 ^ 16 ⌝ }
     requires { ⌜ at + 5 + (len + 7) / 8 ≤ length (now out) ⌝ }
     requires { ⌜ first + len ≤ 8 * length (now frames) ⌝ }
@@ -125,7 +131,7 @@ pub fn put_counted(out: &mut [u8], at: usize, frames: &[u8], first: usize, len: 
 }
 
 // The same, if there are any.
-pub fn put_counted_if_any(
+pub(crate) fn put_counted_if_any(
     out: &mut [u8],
     at: usize,
     frames: &[u8],
@@ -145,7 +151,7 @@ pub fn put_counted_if_any(
 }
 
 // A mask as field 09, if there is one.
-pub fn put_mask(out: &mut [u8], at: usize, has: bool, mask: u8) -> usize
+pub(crate) fn put_mask(out: &mut [u8], at: usize, has: bool, mask: u8) -> usize
     requires { ⌜ at + length (masked (maskIf has mask)) ≤ length (now out) ⌝ }
     ensures { λ r. ⌜ Wrote (now (out .entry)) at (masked (maskIf has mask)) (now (out .exit)) r ⌝ }
 {
@@ -156,7 +162,7 @@ pub fn put_mask(out: &mut [u8], at: usize, has: bool, mask: u8) -> usize
 }
 
 // A flag as a field.
-pub fn put_flag(out: &mut [u8], at: usize, tag: u8, b: bool) -> usize
+pub(crate) fn put_flag(out: &mut [u8], at: usize, tag: u8, b: bool) -> usize
     requires { ⌜ at + 4 ≤ length (now out) ⌝ }
     ensures { λ r. ⌜ Wrote (now (out .entry)) at (number tag 1 (bit b)) (now (out .exit)) r ⌝ }
 {
@@ -167,7 +173,7 @@ pub fn put_flag(out: &mut [u8], at: usize, tag: u8, b: bool) -> usize
 }
 
 // The five bits of a BL-ACK behind their count, as field 0C.
-pub fn put_ack(out: &mut [u8], at: usize, nr: bool) -> usize
+pub(crate) fn put_ack(out: &mut [u8], at: usize, nr: bool) -> usize
     requires { ⌜ at + 6 ≤ length (now out) ⌝ }
     ensures { λ r. ⌜ Wrote (now (out .entry)) at (counted (header (Pdu.BlAck false nr))) (now (out .exit)) r ⌝ }
 {

@@ -162,7 +162,7 @@ sees a h l (c ∷ cs) ok u =
       alone = rw p (ap₂ (λ (x y : List Record). x ++ y) (o .silent) (later .alone));
     })
 
-holder-somebody : (a : ℕ) (w : Option ℕ) → isHolder a w ≡ true → isNobody w ≡ false
+pub holder-somebody : (a : ℕ) (w : Option ℕ) → isHolder a w ≡ true → isNobody w ≡ false
 holder-somebody a none e = absurd (false≢true e)
 holder-somebody a (some b) e = refl
 

@@ -11,7 +11,7 @@ use lib.ListN.{length, set, length-set}
 use lib.Seq.{ext-getD}
 use Rattle.tdma_time.specs.declared.TdmaTime.{TdmaTime}
 use Rattle.tx_receipt.specs.declared.TxState.{TxState}
-use Rattle.questions.specs.Outcome.{Outcome, accepted, refused, ask}
+use Rattle.questions.specs.Outcome.{Outcome, accepted, refused}
 use Rattle.llc_rule.specs.Lists.{keep, any, Found, nothing, first, behind, find, others}
 use Rattle.llc_rule.specs.Records.{Record, ssiOf, Sent}
 use Rattle.llc_rule.specs.Messages.{Message, Due, Place, free, placeAt, mark}
@@ -94,13 +94,6 @@ own-parts a h h′ l l′ all bits messages sents dues places =
 unfoldable pub seenAs : {S T : Type 0} → (S → T) → (List Record → List Record) → Outcome (Done S) → Outcome (Done T)
 seenAs f g (accepted d) = accepted (done (f (d .state)) (g (d .records)))
 seenAs f g (refused n) = refused n
-
-pub seen-ask :
-    {S T : Type 0} (f : S → T) (g : List Record → List Record) (n : ℕ) (b : Bool) (o : Outcome (Done S))
-    → seenAs f g (ask n b o) ≡ ask n b (seenAs f g o)
-unfolding seenAs
-seen-ask f g n true o = refl
-seen-ask f g n false o = refl
 
 pub accepted-same : {A : Type 0} {x y : A} → accepted x ≡ accepted y → x ≡ y
 accepted-same e = cc

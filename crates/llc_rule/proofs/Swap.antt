@@ -16,12 +16,12 @@ use Rattle.llc_rule.specs.Rule.{Own, rule}
 use Rattle.llc_rule.specs.Runs.{left, given, Exchange, exchange, run, after}
 use Rattle.llc_rule.specs.Past.{Holders, nobody, holders, belongsTo, holder's, whoseCall, whoseIs, whose, concerns, inPast, past, holdersAfter, Sight, sight, isHolder, takenFrom}
 use Rattle.llc_rule.specs.Claim.{calls, unhindered, Swap}
-use Rattle.llc_rule.specs.Sound.{Sound, isNobody}
+use Rattle.llc_rule.specs.Sound.{Sound}
 use Rattle.llc_rule.proofs.Lists.{by-test, both, and-false}
 use Rattle.llc_rule.proofs.Own.{own, place-blank}
 use Rattle.llc_rule.proofs.SeenCalls.{Unhindered}
 use Rattle.llc_rule.proofs.SoundCalls.{sound-new, sound-step}
-use Rattle.llc_rule.proofs.Demand3.{Mine, Others, mine, others, held-own}
+use Rattle.llc_rule.proofs.Demand3.{Mine, Others, mine, others, holder-somebody, held-own}
 
 -- The link and who holds its receipts after a call.
 abbrev nextHolders : Holders → Link → List ℕ → Holders
@@ -92,10 +92,6 @@ others-here : (a : ℕ) (h : Holders) (l : Link) (c : List ℕ) → Sound h l �
 unfolding inPast
 others-here a h l c ok w = others a h l c ok (and-false (not (eqb (number (step l c)) 1)) w)
 
-somebody : (a : ℕ) (w : Option ℕ) → isHolder a w ≡ true → isNobody w ≡ false
-somebody a none e = absurd (false≢true e)
-somebody a (some b) e = refl
-
 concerns-holder : (a : ℕ) (w : Option ℕ) → concerns a (holder's w) ≡ isHolder a w
 concerns-holder a none = refl
 concerns-holder a (some b) = refl
@@ -105,7 +101,7 @@ holds : (a : ℕ) (h : Holders) (l : Link) (i : ℕ) → Sound h l → isHolder 
 unfolding own
 holds a h l i ok =
     by-test (isHolder a (h i))
-    (λ e. rw (place-blank a h (l .receipts) i, e, ok .free i, somebody a (h i) e))
+    (λ e. rw (place-blank a h (l .receipts) i, e, ok .free i, holder-somebody a (h i) e))
     (λ e. rw (place-blank a h (l .receipts) i, e))
 
 -- And so is whether a call concerns it.
