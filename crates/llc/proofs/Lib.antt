@@ -1,7 +1,1 @@
-pub mod Relaid
-pub mod TickEnd
-pub mod Calls
-pub mod Places
-pub mod Requests
-pub mod Steps
-pub mod Ready
+pub mod Ways

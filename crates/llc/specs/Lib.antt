@@ -1,7 +1,2 @@
-pub mod Arrays
-pub mod States
-pub mod TickEnd
-pub mod Places
-pub mod Calls
-pub mod Steps
-pub mod Holds
+pub mod Entry
+pub mod Questions

@@ -1,1 +1,7 @@
-// The basic link of a base station, from tetra-entities' llc_bs_ms.rs.
+// The basic link of a base station, from tetra-entities' llc_bs_ms.rs: its entry point.
+mod dispatch;
+mod entry;
+
+pub use entry::OUTPUT;
+pub use entry::STORE;
+pub use entry::call;

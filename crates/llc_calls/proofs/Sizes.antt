@@ -8,7 +8,7 @@ use borrow.Author.Tests.{le-leb, lt-leb, eq-eqb, ne-eqb}
 use lib.Dec.{eqb}
 use lib.ListN.{length, getD, drop, length-drop}
 use Rattle.questions.specs.Outcome.{refused}
-use Rattle.llc_rule.specs.Calls.{Tag, unknown, numberAt, tagOf, inner, filled, callOf}
+use Rattle.llc_rule.specs.Calls.{Tag, unknown, numberAt, tagOf, inner, filled, parsed}
 
 -- A value of n bytes, and one of another length.
 pub sized : (b : List ℕ) (n : ℕ) → length b ≡ 3 + n → eqb (length (drop 3 b)) n ≡ true
@@ -19,16 +19,16 @@ not-sized b n h d = ne-eqb (length (drop 3 b)) n (λ e. d (omega (arith, length-
 
 -- A call that its outer length does not fill, and one that it fills.
 module _ (b : List ℕ) where
-  pub too-short : length b < 3 → callOf b ≡ refused 2
-  unfolding callOf filled
+  pub too-short : length b < 3 → parsed b ≡ refused 2
+  unfolding parsed filled
   too-short h = rw (lt-leb 3 (length b) h)
 
-  pub not-outer : 3 ≤ length b → (length b ≡ 3 + numberAt b 1 2 → ⊥) → callOf b ≡ refused 2
-  unfolding callOf filled
+  pub not-outer : 3 ≤ length b → (length b ≡ 3 + numberAt b 1 2 → ⊥) → parsed b ≡ refused 2
+  unfolding parsed filled
   not-outer h d = rw (le-leb 3 (length b) h, ne-eqb (length b) (3 + numberAt b 1 2) d)
 
-  pub by-tag : {t : Tag} → 3 ≤ length b → length b ≡ 3 + numberAt b 1 2 → tagOf (getD b 0 0) ≡ t → callOf b ≡ inner t (drop 3 b)
-  unfolding callOf filled
+  pub by-tag : {t : Tag} → 3 ≤ length b → length b ≡ 3 + numberAt b 1 2 → tagOf (getD b 0 0) ≡ t → parsed b ≡ inner t (drop 3 b)
+  unfolding parsed filled
   by-tag h e tag = rw (le-leb 3 (length b) h, eq-eqb (length b) (3 + numberAt b 1 2) e, tag)
 
 -- A tag that is none of the eight.

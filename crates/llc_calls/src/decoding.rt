@@ -3,7 +3,7 @@ ghost use Prim.Native.Nat.{_+_, _≤_};
 ghost use mathlib.Core.Bool.{true};
 ghost use mathlib.Core.Path.{_≡_};
 ghost use lib.ListN.{length, drop};
-ghost use Rattle.llc_rule.specs.Calls.{tag21, tag22, tag23, tag24, tag25, tag26, tag27, tag28, filledFrom, requestIn, frameIn, inner, callOf};
+ghost use Rattle.llc_rule.specs.Calls.{tag21, tag22, tag23, tag24, tag25, tag26, tag27, tag28, filledFrom, requestIn, frameIn, inner, parsed};
 ghost use Rattle.llc_calls.specs.Decoded.{decoded, Inside, requestOf, frameOf, RequestInside, FrameInside};
 use crate::Decoded;
 use crate::FrameCall;
@@ -16,7 +16,7 @@ use tdma_time::TdmaTime;
 
 /// The call that bytes spell, or that its lengths do not fill it or that its tag is not known.
 pub fn decode(bytes: &[u8]) -> Decoded
-    ensures { λ r. ⌜ decoded r (now (bytes .entry)) ≡ callOf (now (bytes .entry)) ⌝ }
+    ensures { λ r. ⌜ decoded r (now (bytes .entry)) ≡ parsed (now (bytes .entry)) ⌝ }
     ensures inside { λ r. ⌜ Inside r (now (bytes .entry)) ⌝ }
 {
     if bytes.len() < 3 {

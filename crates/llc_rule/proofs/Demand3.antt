@@ -9,7 +9,7 @@ use lib.Dec.{eqb}
 use Rattle.questions.specs.Outcome.{Outcome, accepted, refused, number}
 use Rattle.questions.proofs.Asked.{accepted-passed}
 use Rattle.llc_rule.specs.Lists.{keep, all, among}
-use Rattle.llc_rule.specs.Calls.{Call, start, tickStart, tickEnd, dataRequest, unitdataRequest, frame, report, release, callOf}
+use Rattle.llc_rule.specs.Calls.{Call, start, tickStart, tickEnd, dataRequest, unitdataRequest, frame, report, release, parsed}
 use Rattle.llc_rule.specs.Ranges.{inRange}
 use Rattle.llc_rule.specs.Records.{Record}
 use Rattle.llc_rule.specs.Messages.{Place, free, taken, placeAt, isFree, noReceipts}
@@ -71,14 +71,14 @@ pub record Others (a : ℕ) (h : Holders) (l : Link) (c : List ℕ) : Type 0 whe
 mine-by :
     (a : ℕ) (h : Holders) (l : Link) (c : List ℕ) (o : Outcome (Done Link))
     → step l c ≡ o
-    → rule (own a h l) c ≡ seenAs (own a (heldAfterCall (callOf c) h)) (shownOf a (callOf c)) o
+    → rule (own a h l) c ≡ seenAs (own a (heldAfterCall (parsed c) h)) (shownOf a (parsed c)) o
     → Mine a h l c
 unfolding seenAs sight holders keep
 mine-by a h l c (accepted d) e g = record { number = rw (e, g); records = rw (e, g); next = rw (e, g) }
 mine-by a h l c (refused n) e g =
     record {
       number = rw (e, g);
-      records = rw (e, g) (either (λ (rs : List Record). rs ≡ []) (isTickEnd (callOf c)) refl refl);
+      records = rw (e, g) (either (λ (rs : List Record). rs ≡ []) (isTickEnd (parsed c)) refl refl);
       next = ap (λ (x : Holders). own a x (left l (step l c))) (holders-refused h l c n e) ∙ rw (e, g);
     }
 
@@ -89,7 +89,7 @@ pub mine :
     → concerns a (whose h c) ≡ true
     → Mine a h l c
 unfolding whose rule step
-mine a h l c ok u w = mine-by a h l c (step l c) refl (judged-is a h l (callOf c) ok w u)
+mine a h l c ok u w = mine-by a h l c (step l c) refl (judged-is a h l (parsed c) ok w u)
 
 concerned : (a : ℕ) (h : Holders) (e : Exchange) → inPast a h e ≡ true → concerns a (whose h (e .call)) ≡ true
 unfolding inPast
@@ -116,7 +116,7 @@ others-by :
     → Others a h l c
 unfolding step whose holders keep
 others-by a h l c (accepted d) e ok p =
-    let x = others-called a h l (callOf c) d ok p e in
+    let x = others-called a h l (parsed c) d ok p e in
     record { silent = rw e (x .silent); next = rw e (x .same) }
 others-by a h l c (refused n) e ok p =
     record {

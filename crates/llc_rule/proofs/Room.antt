@@ -15,7 +15,7 @@ use Rattle.llc_pdus.specs.Headers.{Reading, reading, hasFcs, header}
 use Rattle.llc_pdus.specs.declared.Pdu.{Pdu}
 use Rattle.llc_pdus.specs.declared.Pdu.the-variants.{BlAdata, BlData, BlUdata, BlAck}
 use Rattle.llc_rule.specs.Lists.{Found, nothing, first, Visit, walk, among}
-use Rattle.llc_rule.specs.Calls.{Call, start, tickStart, tickEnd, dataRequest, unitdataRequest, frame, report, release, Request, Frame, callOf}
+use Rattle.llc_rule.specs.Calls.{Call, start, tickStart, tickEnd, dataRequest, unitdataRequest, frame, report, release, Request, Frame, parsed}
 use Rattle.llc_rule.specs.Ranges.{steals, hasMask, isType, isReceipt, requestInRange, frameInRange, inRange}
 use Rattle.llc_rule.specs.Records.{Record, acknowledged, unacknowledged, Sent, Indication, indicationBytes, bytes, allBytes}
 use Rattle.llc_rule.specs.Received.{Received, checks, checked, received, nsOf, nrOf, indication, upward}
@@ -351,7 +351,7 @@ called-room l w h (accepted c) =
 -- The records of any call.
 pub room : (l : Link) → Within l → Small l → (c : List ℕ) → length (allBytes (given (step l c))) ≤ 46656
 unfolding step
-room l w h c = called-room l w h (callOf c)
+room l w h c = called-room l w h (parsed c)
 
 -- The messages stay small -------------------------------------------------------------------------------------------------
 
@@ -509,7 +509,7 @@ called-small l h (accepted c) =
 -- Any call leaves small messages small.
 pub small-step : (l : Link) → Small l → (c : List ℕ) → Small (left l (step l c))
 unfolding step
-small-step l h c = called-small l h (callOf c)
+small-step l h c = called-small l h (parsed c)
 
 pub small-after : (l : Link) → Small l → (cs : List (List ℕ)) → Small (after l cs)
 unfolding after

@@ -16,7 +16,7 @@ use Rattle.llc_pdus.specs.Headers.{reading}
 use Rattle.tdma_time.specs.Modulo.{modulo}
 use Rattle.tdma_time.specs.Slots.{slots, timeAt, plus as plusSlots, centred, minus, valid}
 use Rattle.llc_rule.specs.Lists.{any, find, walk}
-use Rattle.llc_rule.specs.Calls.{fromBytes, toBytes, filledFrom, requestIn, frameIn, tagOf, inner, filled, callOf}
+use Rattle.llc_rule.specs.Calls.{fromBytes, toBytes, filledFrom, requestIn, frameIn, tagOf, inner, filled, parsed}
 use Rattle.llc_rule.specs.Records.{Record, packed, counted, masked, countedIfAny, sentBytes, replyBytes, indicationBytes, bytes}
 use Rattle.llc_rule.specs.Ranges.{requestInRange, frameInRange, inRange}
 use Rattle.llc_rule.specs.Received.{checks, checked, received, upward}
@@ -71,7 +71,7 @@ spell (x ∷ xs) (r ∷ rs) = same x (bytes r) && spell xs rs
 -- The exchanges of a run from a link, with all opened that `run` computes by, and the link after it.
 unfoldable pub exchanges : Link → List Told → List Exchange
 unfolding toBits value bits plus divisor rest start fcs reading modulo slots timeAt plusSlots centred minus valid any find
-    walk fromBytes toBytes filledFrom requestIn frameIn tagOf inner filled callOf requestInRange frameInRange inRange checks
+    walk fromBytes toBytes filledFrom requestIn frameIn tagOf inner filled parsed requestInRange frameInRange inRange checks
     checked received upward overdue slotBefore replyTo sentOf noReceipts new startedWith bitOf withBit dueFor rowFor
     withAcknowledged withUnacknowledged withStolen onData onUnitdata awaiting answeredBy onReceived onFrame held waits
     onReport onRelease retransmission firstSending retransmissions firstSendings onTickEnd act called step run

@@ -17,7 +17,7 @@ use Rattle.tx_receipt.specs.declared.TxState.the-variants.{Pending, Discarded, 
 use Rattle.llc_pdus.specs.declared.Pdu.{Pdu}
 use Rattle.llc_pdus.specs.declared.Pdu.the-variants.{BlAdata, BlData, BlUdata, BlAck}
 use Rattle.llc_rule.specs.Lists.{among, Found, nothing, first, Visit, walk}
-use Rattle.llc_rule.specs.Calls.{Call, start, tickStart, tickEnd, dataRequest, unitdataRequest, frame, report, release, Request, Frame, callOf}
+use Rattle.llc_rule.specs.Calls.{Call, start, tickStart, tickEnd, dataRequest, unitdataRequest, frame, report, release, Request, Frame, parsed}
 use Rattle.llc_rule.specs.Ranges.{steals, wantsFcs, requestInRange, inRange}
 use Rattle.llc_rule.specs.Records.{Record, acknowledged, reply, unacknowledged, dataUp, unitdataUp, Sent}
 use Rattle.llc_rule.specs.Received.{Received, received, nsOf, nrOf, upward}
@@ -487,12 +487,12 @@ module _ (i : ℕ) (s : Sent) (l : Link) (h : IsTaken (l .receipts) i) where
   onward-number (accepted d) e = absurd (true≢false e)
   onward-number (refused n) e = onward-refused i s l h n
 
-  onward-step : (c : List ℕ) → eqb (number (step l c)) 0 && ends i (callOf c) ≡ false → Onward i s l (step l c)
+  onward-step : (c : List ℕ) → eqb (number (step l c)) 0 && ends i (parsed c) ≡ false → Onward i s l (step l c)
   unfolding step
   onward-step c e =
-      by-test (ends i (callOf c))
+      by-test (ends i (parsed c))
       (λ f. onward-number (step l c) (either (eqb (number (step l c)) 0) f e))
-      (λ f. onward-called (callOf c) f)
+      (λ f. onward-called (parsed c) f)
     where
       either : (b : Bool) {d : Bool} → d ≡ true → b && d ≡ false → b ≡ false
       either true t u = clash t u
@@ -512,7 +512,7 @@ few-sendings :
 unfolding sendings run
 few-sendings i s l [] h a = record { few = omega arith; same = tt }
 few-sendings i s l (c ∷ cs) h a =
-    by-choice (Few (budget i (l .acknowledged)) s) (eqb (number (step l c)) 0 && ends i (callOf c))
+    by-choice (Few (budget i (l .acknowledged)) s) (eqb (number (step l c)) 0 && ends i (parsed c))
     (λ e. record { few = omega arith; same = tt })
     (λ e.
     let o = onward-step i s l h c e in
@@ -637,9 +637,9 @@ module _ (h : Holders) (l : Link) (sound : Sound h l) (r : Request) where
       (λ a. begun-ask r l 4 (inRange c) _ λ b f. begun-act c b f t)
       e
 
-  begun-step : (c : List ℕ) → number (step l c) ≡ 0 → requestOf (callOf c) ≡ some r → Begun r (left l (step l c))
+  begun-step : (c : List ℕ) → number (step l c) ≡ 0 → requestOf (parsed c) ≡ some r → Begun r (left l (step l c))
   unfolding step
-  begun-step c e t = begun-called (callOf c) e t
+  begun-step c e t = begun-called (parsed c) e t
 
 at-most-four : (r : Request) (l : Link) (cs : List (List ℕ)) → Begun r l → AtMostFour r (sendings (r .receipt) (run l cs))
 at-most-four r l cs b =

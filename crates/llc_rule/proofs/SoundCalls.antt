@@ -16,7 +16,7 @@ use Rattle.tx_receipt.specs.declared.TxState.{TxState}
 use Rattle.tx_receipt.specs.declared.TxState.the-variants.{Pending, Discarded, Transmitted}
 use Rattle.llc_pdus.specs.Headers.{Reading, reading, hasFcs, one, kindAt, lengthOf}
 use Rattle.llc_rule.specs.Lists.{keep, any}
-use Rattle.llc_rule.specs.Calls.{Call, start, tickStart, tickEnd, dataRequest, unitdataRequest, frame, report, release, Request, Frame, callOf}
+use Rattle.llc_rule.specs.Calls.{Call, start, tickStart, tickEnd, dataRequest, unitdataRequest, frame, report, release, Request, Frame, parsed}
 use Rattle.llc_rule.specs.Ranges.{inRange}
 use Rattle.llc_rule.specs.Received.{Received, checks, checked, received, nsOf, nrOf}
 use Rattle.llc_rule.specs.Messages.{Message, free, placeAt, taken?, mark, noReceipts}
@@ -256,7 +256,7 @@ pub holders-refused :
     → step l bytes ≡ refused n
     → holders (exchange bytes (step l bytes)) h ≡ h
 unfolding holders step
-holders-refused h l bytes n e = rw e (held-refused h l (callOf bytes) n e)
+holders-refused h l bytes n e = rw e (held-refused h l (parsed bytes) n e)
 
 -- What a call leaves, by the call and by its outcome.
 sound-called :
@@ -279,7 +279,7 @@ pub sound-step :
     → Sound h l
     → Sound (holders (exchange bytes (step l bytes)) h) (left l (step l bytes))
 unfolding holders step
-sound-step h l bytes s = sound-called h l (callOf bytes) s (step l bytes) refl
+sound-step h l bytes s = sound-called h l (parsed bytes) s (step l bytes) refl
 
 -- Runs --------------------------------------------------------------------------------------------------------------------
 

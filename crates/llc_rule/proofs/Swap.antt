@@ -8,7 +8,7 @@ use borrow.Author.Tests.{eqb-true, eqb-false, eq-eqb, ne-eqb}
 use lib.Dec.{eqb}
 use Rattle.questions.specs.Outcome.{Outcome, accepted, refused, number}
 use Rattle.llc_rule.specs.Lists.{all, among}
-use Rattle.llc_rule.specs.Calls.{Call, start, tickStart, tickEnd, dataRequest, unitdataRequest, frame, report, release, callOf}
+use Rattle.llc_rule.specs.Calls.{Call, start, tickStart, tickEnd, dataRequest, unitdataRequest, frame, report, release, parsed}
 use Rattle.llc_rule.specs.Messages.{free, placeAt, isFree}
 use Rattle.llc_rule.specs.Link.{Link, new}
 use Rattle.llc_rule.specs.Step.{step}
@@ -122,7 +122,7 @@ concerns-outcome a h h′ (accepted c) e = concerns-call a h h′ c e
 same-concern : (a : ℕ) (h : Holders) (l : Link) (h′ : Holders) (l′ : Link) (c : List ℕ) → Sound h l → Sound h′ l′ → own a h l ≡ own a h′ l′ → concerns a (whose h c) ≡ concerns a (whose h′ c)
 unfolding whose
 same-concern a h l h′ l′ c ok ok′ q =
-    concerns-outcome a h h′ (callOf c)
+    concerns-outcome a h h′ (parsed c)
     (λ i. holds a h l i ok ∙ ap (λ (o : Own). not (isFree (placeAt (o .receipts) i))) q ∙ sym (holds a h′ l′ i ok′))
 
 -- The same calls, from two links of which it has the same.
@@ -213,7 +213,7 @@ module _
     d-first : whose h d ≡ belongsTo t
     unfolding whose
     d-first =
-        still-belongs h h₁ t (callOf d) d-is
+        still-belongs h h₁ t (parsed d) d-is
         (same-concern t h l h₁ l₁ d ok ok₁ (sym (others-here t h l c ok (concerns-c t ∙ differ) .next))
         ∙ concerns-d₁ t
         ∙ eq-eqb t t refl)
@@ -227,7 +227,7 @@ module _
     c-second : whose g₁ c ≡ belongsTo s
     unfolding whose
     c-second =
-        still-belongs g₁ h s (callOf c) c-is
+        still-belongs g₁ h s (parsed c) c-is
         (same-concern s g₁ k₁ h l c ok₂ ok (others-here s h l d ok (concerns-d s ∙ differ-too) .next)
         ∙ concerns-c s
         ∙ eq-eqb s s refl)

@@ -144,5 +144,5 @@ unfoldable pub filled : List ℕ → Bool
 filled b = leb 3 (length b) && eqb (length b) (3 + numberAt b 1 2)
 
 -- Bytes as a call, or number 2 or 3.
-unfoldable pub callOf : List ℕ → Outcome Call
-callOf b = ask 2 (filled b) (inner (tagOf (getD b 0 0)) (drop 3 b))
+unfoldable pub parsed : List ℕ → Outcome Call
+parsed b = ask 2 (filled b) (inner (tagOf (getD b 0 0)) (drop 3 b))

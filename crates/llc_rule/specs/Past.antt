@@ -7,7 +7,7 @@ use mathlib.Core.Option.{Option, none, some}
 use lib.Dec.{eqb}
 use Rattle.questions.specs.Outcome.{Outcome, accepted, refused}
 use Rattle.llc_rule.specs.Lists.{keep}
-use Rattle.llc_rule.specs.Calls.{Call, start, tickStart, tickEnd, dataRequest, unitdataRequest, frame, report, release, callOf}
+use Rattle.llc_rule.specs.Calls.{Call, start, tickStart, tickEnd, dataRequest, unitdataRequest, frame, report, release, parsed}
 use Rattle.llc_rule.specs.Records.{Record, ssiOf}
 use Rattle.llc_rule.specs.Messages.{Place, free, isFree}
 use Rattle.llc_rule.specs.Runs.{Exchange}
@@ -39,7 +39,7 @@ heldAfterCall (accepted c) h = heldAfter c h
 
 -- Who holds each receipt after a call with its answer: an accepted call has number 0.
 unfoldable pub holders : Exchange → Holders → Holders
-holders e h = cond (eqb (e .number) 0) (heldAfterCall (callOf (e .call)) h) h
+holders e h = cond (eqb (e .number) 0) (heldAfterCall (parsed (e .call)) h) h
 
 -- Whose a call is: a start or a tick is in every past, another call belongs to one address or to none.
 pub data Whose : Type 0 where
@@ -69,7 +69,7 @@ whoseIs h (refused n) = nobody's
 whoseIs h (accepted c) = whoseCall h c
 
 unfoldable pub whose : Holders → List ℕ → Whose
-whose h bytes = whoseIs h (callOf bytes)
+whose h bytes = whoseIs h (parsed bytes)
 
 -- Is a call of somebody in the past of address a?
 abbrev pub concerns : ℕ → Whose → Bool
@@ -117,7 +117,7 @@ sight a e =
     record {
       number = e .number;
       records =
-          cond (isTickEnd (callOf (e .call))) (keep (λ (r : Record). eqb (ssiOf r) a) (e .records)) (e .records);
+          cond (isTickEnd (parsed (e .call))) (keep (λ (r : Record). eqb (ssiOf r) a) (e .records)) (e .records);
     }
 
 -- "And the receipts it holds at the end with their marks": a receipt's number, and what is in its place.

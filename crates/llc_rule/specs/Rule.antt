@@ -14,7 +14,7 @@ use Rattle.tx_receipt.specs.declared.TxState.the-variants.{Pending, Discarded, 
 use Rattle.llc_pdus.specs.declared.Pdu.{Pdu}
 use Rattle.llc_pdus.specs.declared.Pdu.the-variants.{BlAdata, BlData, BlUdata, BlAck}
 use Rattle.llc_rule.specs.Lists.{any, Found, nothing, first, find, others, Visit, walk}
-use Rattle.llc_rule.specs.Calls.{Call, start, tickStart, tickEnd, dataRequest, unitdataRequest, frame, report, release, Request, Frame, callOf}
+use Rattle.llc_rule.specs.Calls.{Call, start, tickStart, tickEnd, dataRequest, unitdataRequest, frame, report, release, Request, Frame, parsed}
 use Rattle.llc_rule.specs.Ranges.{steals, wantsFcs, inRange}
 use Rattle.llc_rule.specs.Records.{Record, acknowledged, unacknowledged, Sent}
 use Rattle.llc_rule.specs.Received.{Received, received, nsOf, nrOf, upward}
@@ -303,4 +303,4 @@ judged o (accepted c) = ask 4 (mayCome c o) (ask 5 (inRange c) (does c o))
 
 -- The rule on one call of any bytes.
 unfoldable pub rule : Own → List ℕ → Outcome (Done Own)
-rule o bytes = judged o (callOf bytes)
+rule o bytes = judged o (parsed bytes)

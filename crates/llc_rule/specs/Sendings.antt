@@ -8,7 +8,7 @@ use lib.Dec.{eqb}
 use lib.ListN.{length}
 use Rattle.questions.specs.Outcome.{Outcome, accepted, refused, number}
 use Rattle.llc_pdus.specs.declared.Pdu.{Pdu}
-use Rattle.llc_rule.specs.Calls.{Call, start, tickStart, tickEnd, dataRequest, unitdataRequest, frame, report, release, Request, callOf}
+use Rattle.llc_rule.specs.Calls.{Call, start, tickStart, tickEnd, dataRequest, unitdataRequest, frame, report, release, Request, parsed}
 use Rattle.llc_rule.specs.Records.{Record, acknowledged, reply, unacknowledged, dataUp, unitdataUp, Sent}
 use Rattle.llc_rule.specs.Messages.{sentOf}
 use Rattle.llc_rule.specs.Link.{new}
@@ -53,7 +53,7 @@ handed i (unitdataUp u ∷ rs) = handed i rs
 unfoldable pub sendings : ℕ → List Exchange → List Sent
 sendings i [] = []
 sendings i (e ∷ es) =
-    cond (eqb (e .number) 0 && ends i (callOf (e .call))) [] (handed i (e .records) ++ sendings i es)
+    cond (eqb (e .number) 0 && ends i (parsed (e .call))) [] (handed i (e .records) ++ sendings i es)
 
 -- At most four, and all the same: the request's message on one carrier, with one link id, behind one header.
 pub record AtMostFour (r : Request) (ss : List Sent) : Type 0 where
@@ -68,5 +68,5 @@ pub record HandedDown : Type 0 where
   pub each :
       (before : List (List ℕ)) (c : List ℕ) (r : Request) (later : List (List ℕ))
       → number (step (after new before) c) ≡ 0
-      → requestOf (callOf c) ≡ some r
+      → requestOf (parsed c) ≡ some r
       → AtMostFour r (sendings (r .receipt) (run (left (after new before) (step (after new before) c)) later))

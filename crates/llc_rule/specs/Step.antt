@@ -12,7 +12,7 @@ use Rattle.tx_receipt.specs.declared.TxState.the-variants.{Pending, Discarded, 
 use Rattle.llc_pdus.specs.declared.Pdu.{Pdu}
 use Rattle.llc_pdus.specs.declared.Pdu.the-variants.{BlAdata, BlData, BlUdata, BlAck}
 use Rattle.llc_rule.specs.Lists.{any, among, Found, nothing, first, find, others, Visit, walk}
-use Rattle.llc_rule.specs.Calls.{Call, start, tickStart, tickEnd, dataRequest, unitdataRequest, frame, report, release, Request, Frame, callOf}
+use Rattle.llc_rule.specs.Calls.{Call, start, tickStart, tickEnd, dataRequest, unitdataRequest, frame, report, release, Request, Frame, parsed}
 use Rattle.llc_rule.specs.Ranges.{steals, wantsFcs, inRange}
 use Rattle.llc_rule.specs.Records.{Record, acknowledged, unacknowledged, Sent}
 use Rattle.llc_rule.specs.Received.{Received, received, nsOf, nrOf, upward}
@@ -285,4 +285,4 @@ called l (accepted c) = ask 4 (isStart c || l .started) (ask 5 (inRange c) (act 
 
 -- A call of any bytes: a number, or the link after it and its records.
 unfoldable pub step : Link → List ℕ → Outcome (Done Link)
-step l bytes = called l (callOf bytes)
+step l bytes = called l (parsed bytes)

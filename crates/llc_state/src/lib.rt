@@ -3,6 +3,7 @@ mod ranges;
 mod receipts;
 mod starts;
 
+pub use starts::NEW;
 use tdma_time::TdmaTime;
 use tx_receipt::TxReceipt;
 

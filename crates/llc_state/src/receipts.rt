@@ -8,8 +8,8 @@ use tx_receipt::TxReceipt;
 use tx_receipt::TxState;
 
 impl ReceiptPlace {
-    // The place with its receipt in another state, if it is taken.
-    fn marked(self, state: TxState) -> ReceiptPlace
+    /// The place with its receipt in another state, if it is taken.
+    pub fn marked(self, state: TxState) -> ReceiptPlace
         ensures { λ r. ⌜ r ≡ markedPlace state self ⌝ }
     {
         let receipt = self.receipt;

@@ -3,12 +3,9 @@ use Rattle.llc_state.specs.States.{noEntry}
 use Rattle.llc_state.proofs.Entry.empty.Statement.{statement}
 use Rattle.llc_state.proofs.Entry.empty.Tie as tie
 
-default-requires : tie.Need-default-requires
-default-requires c κs = search needs
-
 returns : tie.Need-returns
 unfolding noEntry
-returns c = rw (c .default .ensures)
+returns c = search needs
 
 pub empty-spec : {M : Type 1} → statement M
-empty-spec = tie.close (tie.spec default-requires returns)
+empty-spec = tie.close (tie.spec returns)

@@ -1,0 +1,25 @@
+-- The entry point: question 1, then `step` on the link that state and store hold, then where everything lies afterwards.
+use Prim.Native.Nat.{ℕ, _*_}
+use mathlib.Core.Bool.{Bool, _&&_}
+use mathlib.Core.List.{List}
+use lib.Dec.{eqb, leb}
+use lib.ListN.{length}
+use Rattle.questions.specs.Outcome.{Outcome, ask}
+use Rattle.llc_state.specs.Ranges.{inRange}
+use Rattle.llc_state.specs.declared.State.{State}
+use Rattle.llc_steps.specs.States.{Kept}
+use Rattle.llc_steps.specs.Answers.{Effect, delivered}
+use Rattle.llc_steps.specs.Steps.{steps}
+
+-- "1. Is the store 32,256 bytes and the output at least 46,656, and every count and value in the state handed in within its
+-- range?" The store is given by its bits.
+unfoldable pub lentRight : List ℕ → List ℕ → Bool
+lentRight store out = eqb (length store) (8 * 32256) && leb 46656 (length out)
+
+-- All questions, and what an accepted call leaves and gives.
+unfoldable pub answered : State → List ℕ → List ℕ → List ℕ → Outcome Kept
+answered s store out bytes = ask 1 (lentRight store out && inRange s) (steps s store bytes)
+
+-- One call: number, next state, the store's bits and every byte of the output.
+unfoldable pub callOf : State → List ℕ → List ℕ → List ℕ → Effect
+callOf s store out bytes = delivered s store out (answered s store out bytes)

@@ -1,0 +1,96 @@
+// Any bytes from any caller: questions 1 to 5, and then the call.
+ghost use mathlib.Core.Path.{_≡_};
+ghost use Rattle.bits.specs.Bits.{bits};
+ghost use Rattle.llc_steps.specs.Answers.{effect};
+ghost use Rattle.llc.specs.Entry.{lentRight, callOf};
+ghost use Rattle.llc.specs.Questions.{unreadOf, startsOf, questionOf};
+use crate::dispatch::dispatch;
+use llc_calls::Decoded;
+use llc_calls::decode;
+use llc_calls::in_range;
+use llc_state::State;
+use llc_steps::Answer;
+
+/// How many bytes the store has.
+pub const STORE: usize = 32_256;
+
+/// How many bytes an output has at least.
+pub const OUTPUT: usize = 46_656;
+
+// Are store and output as long as they must be?
+fn lent_right(store: &[u8], out: &[u8]) -> bool
+    ensures { λ r. ⌜ r ≡ lentRight (bits (now (store .entry))) (now (out .entry)) ⌝ }
+{
+    (store.len() == STORE) & (OUTPUT <= out.len())
+}
+
+// Document 01's number for bytes that are no call; 0 for a call.
+fn unread(call: Decoded) -> u8
+    ensures { λ r. ⌜ r ≡ unreadOf call ⌝ }
+{
+    match call {
+        Decoded::Unfilled => 2,
+        Decoded::Unknown => 3,
+        Decoded::Start(_, _) => 0,
+        Decoded::TickStart(_) => 0,
+        Decoded::TickEnd => 0,
+        Decoded::DataRequest(_) => 0,
+        Decoded::UnitdataRequest(_) => 0,
+        Decoded::Frame(_) => 0,
+        Decoded::Report(_, _) => 0,
+        Decoded::Release(_) => 0,
+    }
+}
+
+// Is a call a start?
+fn starts(call: Decoded) -> bool
+    ensures { λ r. ⌜ r ≡ startsOf call ⌝ }
+{
+    match call {
+        Decoded::Start(_, _) => true,
+        Decoded::TickStart(_) => false,
+        Decoded::TickEnd => false,
+        Decoded::DataRequest(_) => false,
+        Decoded::UnitdataRequest(_) => false,
+        Decoded::Frame(_) => false,
+        Decoded::Report(_, _) => false,
+        Decoded::Release(_) => false,
+        Decoded::Unfilled => false,
+        Decoded::Unknown => false,
+    }
+}
+
+// The number of the first of questions 2 to 5 that a call fails; 0 where it fails none.
+fn question(call: Decoded, started: bool) -> u8
+    ensures { λ r. ⌜ r ≡ questionOf call started ⌝ }
+{
+    let n = unread(call);
+    if n != 0 {
+        return n;
+    }
+    if !(starts(call) | started) {
+        return 4;
+    }
+    if !in_range(call) {
+        return 5;
+    }
+    0
+}
+
+/// One call of any bytes, on any state, with any store and output.
+pub fn call(state: State, store: &mut [u8], out: &mut [u8], bytes: &[u8]) -> Answer
+    ensures { λ r. ⌜ effect r (bits (now (store .exit))) (now (out .exit)) ≡ callOf state (bits (now (store .entry))) (now (out .entry)) (now (bytes .entry)) ⌝ }
+{
+    if !lent_right(store, out) {
+        return Answer::refused(1, state);
+    }
+    if !state.in_range() {
+        return Answer::refused(1, state);
+    }
+    let call = decode(bytes);
+    let number = question(call, state.started);
+    if number != 0 {
+        return Answer::refused(number, state);
+    }
+    dispatch(state, store, out, call, bytes)
+}

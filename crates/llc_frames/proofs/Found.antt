@@ -1,0 +1,147 @@
+-- The message that an acknowledgement is for, by its place in the queue.
+use Prim.Native.Nat.{ℕ, zero, suc, _≤_, _<_}
+use native.Mathlib.Omega.{arith}
+use mathlib.Core.Path.{_≡_, _∙_, refl, sym, ap}
+use mathlib.Core.Bool.{Bool, true, false, not, _&&_, _||_}
+use mathlib.Core.List.{List, [], _∷_, _++_}
+use borrow.Author.Tests.{ltb-true}
+use lib.Dec.{eqb, leb, ltb}
+use lib.ListN.{length, getD, take, drop, drop-of-length-le, length-take}
+use lib.Seq.{drop-cons, getD-take, length-take-le}
+use Rattle.tdma_time.specs.Slots.{valid}
+use Rattle.tx_receipt.specs.States.{is, number}
+use Rattle.tx_receipt.specs.declared.TxState.{TxState}
+use Rattle.tx_receipt.specs.declared.TxState.the-variants.{Transmitted, Acknowledged}
+use Rattle.llc_rule.specs.Lists.{all, Found, nothing, first, behind, find}
+use Rattle.llc_rule.specs.Ranges.{isType, isReceipt}
+use Rattle.llc_rule.proofs.Lists.{by-test, both, if-true, if-false}
+use Rattle.llc_state.specs.Ranges.{isSsi, entryInRange}
+use Rattle.llc_state.specs.Receipts.{placeOf, markReceipt}
+use Rattle.llc_state.specs.declared.Entry.{Entry}
+use Rattle.llc_state.specs.declared.ReceiptPlace.{ReceiptPlace}
+use Rattle.llc_state.specs.declared.State.{State}
+use Rattle.llc_steps.specs.Calls.{fits, finishable}
+use Rattle.llc_steps.specs.Queues.{position, without, fronted}
+use Rattle.llc_steps.specs.States.{messagesOf, withMessages}
+use Rattle.llc_frames.specs.Answered.{foundIn, foundAt, answeredAt}
+
+module _ {A : Type 0} where
+  -- What `find` gives is what stands in the place at which the search ends.
+  behind-found : (x : A) (l others : List A) → behind x (foundIn l others) ≡ foundIn l (x ∷ others)
+  behind-found x [] others = refl
+  behind-found x (y ∷ l) others = refl
+
+  pub found-is : (p : A → Bool) (l : List A) → find p l ≡ foundAt (position p l) l
+  unfolding position find
+  found-is p [] = refl
+  found-is p (x ∷ l) =
+      by-test (p x)
+      (λ e. rw e)
+      (λ e. rw e (ap (behind x) (found-is p l) ∙ behind-found x (drop (position p l) l) (without (position p l) l)))
+
+  -- Of the first n of an array, nothing stands in a place from n on, and in another the array's element.
+  found-nothing : (n i : ℕ) (l : List A) → n ≤ i → foundAt i (take n l) ≡ nothing
+  found-nothing n i l h =
+      ap (λ (t : List A). foundIn t (without i (take n l))) (drop-of-length-le (take n l) {i = i} (omega (arith, length-take n l)))
+
+  array-next :
+      (n i : ℕ) (l : List A) (d : A)
+      → n ≤ length l
+      → i < n
+      → drop i (take n l) ≡ getD l i d ∷ drop (suc i) (take n l)
+  array-next n i l d h k =
+      drop-cons (take n l) i d (omega (arith, length-take-le n l h))
+      ∙ ap (λ (x : A). x ∷ drop (suc i) (take n l)) (getD-take n l i d k)
+
+  found-first :
+      (n i : ℕ) (l : List A) (d : A)
+      → n ≤ length l
+      → i < n
+      → foundAt i (take n l) ≡ first (getD l i d) (without i (take n l))
+  found-first n i l d h k = ap (λ (t : List A). foundIn t (without i (take n l))) (array-next n i l d h k)
+
+  -- What is asked of all holds of the element in a place.
+  all-at : (p : A → Bool) (l : List A) (i : ℕ) (d : A) → all p l ≡ true → i < length l → p (getD l i d) ≡ true
+  unfolding all
+  all-at p [] i d a h = absurd (omega (arith, h))
+  all-at p (x ∷ l) zero d a h = both {x = p x} {y = all p l} a .0
+  all-at p (x ∷ l) (suc i) d a h = all-at p l i d (both {x = p x} {y = all p l} a .1) (omega (arith, h))
+
+-- The receipt of a message in range is one of the 128.
+receipt-below : (e : Entry) → entryInRange e ≡ true → e .receipt < 128
+unfolding entryInRange
+receipt-below e h =
+    let x : Bool = isSsi (e .ssi) && isType (e .«ssi_type») && ltb (e .mask) 16 && (e .«has_mask» || eqb (e .mask) 0) in
+    let r : Bool = isReceipt (e .receipt) in
+    let b : Bool = leb (e .«block_len») 64 in
+    let p : Bool = ltb (e .place) 96 in
+    let n : Bool = leb (e .len) 2601 in
+    let c : Bool = leb (e .«retransmit_count») 3 in
+    let upToCount = both {x = x && r && b && p && n && c} {y = valid (e .«t_umac_done»)} h .0 in
+    let upToLen = both {x = x && r && b && p && n} {y = c} upToCount .0 in
+    let upToPlace = both {x = x && r && b && p} {y = n} upToLen .0 in
+    let upToBlock = both {x = x && r && b} {y = p} upToPlace .0 in
+    let upToReceipt = both {x = x && r} {y = b} upToBlock .0 in
+    ltb-true (e .receipt) 128 (both {x = x} {y = r} upToReceipt .1)
+
+module _ (s : State) (i : ℕ) (nr : Bool) (long : s .«n_messages» ≤ length (s .«outbound_messages»)) where
+  -- No message stands in the place.
+  pub none-finishes : s .«n_messages» ≤ i → true ≡ finishable nr (foundAt i (messagesOf s)) s
+  none-finishes h =
+      sym (ap (λ (f : Found Entry). finishable nr f s) (found-nothing (s .«n_messages») i (s .«outbound_messages») h))
+
+  pub none-answered : s .«n_messages» ≤ i → s ≡ answeredAt nr (foundAt i (messagesOf s)) s
+  none-answered h =
+      sym (ap (λ (f : Found Entry). answeredAt nr f s) (found-nothing (s .«n_messages») i (s .«outbound_messages») h))
+
+  -- One does.
+  module _ (d : Entry) (h : i < s .«n_messages») where
+    abbrev entry : Entry
+    entry = getD (s .«outbound_messages») i d
+
+    found : foundAt i (messagesOf s) ≡ first entry (without i (messagesOf s))
+    found = found-first (s .«n_messages») i (s .«outbound_messages») d long h
+
+    pub receipt-in : all entryInRange (messagesOf s) ≡ true → entry .receipt < 128
+    receipt-in a =
+        let e = all-at entryInRange (messagesOf s) i d a (omega (arith, length-take-le (s .«n_messages») (s .«outbound_messages») long)) in
+        receipt-below entry (rw (getD-take (s .«n_messages») (s .«outbound_messages») i d h) at e)
+
+    -- By whether the acknowledgement fits it.
+    finishes :
+        (b : Bool)
+        → fits nr entry ≡ b
+        → not b || (placeOf (s .receipts) (entry .receipt) .taken && is Transmitted (placeOf (s .receipts) (entry .receipt) .receipt))
+        ≡ finishable nr (foundAt i (messagesOf s)) s
+    finishes b e =
+        let place : ReceiptPlace = placeOf (s .receipts) (entry .receipt) in
+        sym (ap (λ (f : Found Entry). finishable nr f s) found ∙ ap (λ (t : Bool). not t || (place .taken && is Transmitted (place .receipt))) e)
+
+    pub unfit-finishes : fits nr entry ≡ false → true ≡ finishable nr (foundAt i (messagesOf s)) s
+    unfit-finishes e = finishes false e
+
+    pub fit-finishes :
+        (raw : ℕ) {state : TxState}
+        → fits nr entry ≡ true
+        → state ≡ placeOf (s .receipts) (entry .receipt) .receipt .state
+        → raw ≡ number state
+        → placeOf (s .receipts) (entry .receipt) .taken && eqb raw 2 ≡ finishable nr (foundAt i (messagesOf s)) s
+    fit-finishes raw e f g =
+        ap (λ (n : ℕ). placeOf (s .receipts) (entry .receipt) .taken && eqb n 2) (g ∙ ap number f) ∙ finishes true e
+
+    pub fit-answered :
+        {r t : State}
+        → fits nr entry ≡ true
+        → t ≡ withMessages s (without i (messagesOf s))
+        → r ≡ markReceipt t (entry .receipt) Acknowledged
+        → r ≡ answeredAt nr (foundAt i (messagesOf s)) s
+    fit-answered e f g =
+        g
+        ∙ ap (λ (u : State). markReceipt u (entry .receipt) Acknowledged) f
+        ∙ sym (ap (λ (u : Found Entry). answeredAt nr u s) found ∙ if-true _ _ e)
+
+    pub unfit-answered : fits nr entry ≡ false → withMessages s (fronted i (messagesOf s)) ≡ answeredAt nr (foundAt i (messagesOf s)) s
+    unfit-answered e =
+        let m : List Entry = messagesOf s in
+        ap (λ (t : List Entry). withMessages s (take 1 t ++ without i m)) (array-next (s .«n_messages») i (s .«outbound_messages») d long h)
+        ∙ sym (ap (λ (f : Found Entry). answeredAt nr f s) found ∙ if-false _ _ e)

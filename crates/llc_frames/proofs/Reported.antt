@@ -1,0 +1,124 @@
+-- Reports and releases: what is answered on each path.
+use Prim.Native.Nat.{ℕ}
+use mathlib.Core.Path.{_≡_, _∙_, sym, ap}
+use mathlib.Core.Bool.{Bool, true, false, not, cond, _&&_}
+use mathlib.Core.List.{List, []}
+use borrow.Author.Tests.{eq-eqb, ne-eqb}
+use lib.Dec.{eqb}
+use lib.ListN.{set}
+use Rattle.questions.specs.Outcome.{Outcome, accepted, refused}
+use Rattle.tx_receipt.specs.States.{is, final}
+use Rattle.tx_receipt.specs.declared.TxState.{TxState}
+use Rattle.tx_receipt.specs.declared.TxState.the-variants.{Pending, Discarded, Transmitted}
+use Rattle.llc_rule.specs.Records.{allBytes}
+use Rattle.llc_rule.proofs.Lists.{and-true, and-false}
+use Rattle.llc_state.specs.Receipts.{placeOf, mark, withPlaces}
+use Rattle.llc_state.specs.States.{noReceipt}
+use Rattle.llc_state.specs.declared.ReceiptPlace.{ReceiptPlace}
+use Rattle.llc_state.specs.declared.State.{State}
+use Rattle.llc_steps.specs.Answers.{effect, answer, laidOut, delivered, WithAny}
+use Rattle.llc_steps.specs.Calls.{held, waits, withReceipts, onReport, onRelease}
+use Rattle.llc_steps.specs.States.{Kept, kept}
+use Rattle.llc_steps.specs.declared.Answer.{Answer}
+use Rattle.llc_frames.proofs.Relaid.{Counts, relaid-places}
+
+-- A call that is refused, and one that leaves another state and writes no record.
+refused-any :
+    {r : Answer} (n : ℕ) (s : State) (o : List ℕ → Outcome Kept)
+    → r ≡ answer n s 0
+    → ((store : List ℕ) → o store ≡ refused n)
+    → WithAny r s o
+refused-any n s o e f =
+    record {
+      each = λ store out. ap (λ (a : Answer). effect a store out) e ∙ sym (ap (delivered s store out) (f store));
+    }
+
+accepted-any :
+    {r : Answer} (s t : State) (o : List ℕ → Outcome Kept)
+    → r ≡ answer 0 t 0
+    → ((store : List ℕ) → o store ≡ accepted (kept t store []))
+    → WithAny r s o
+unfolding allBytes laidOut
+accepted-any s t o e f =
+    record {
+      each = λ store out. ap (λ (a : Answer). effect a store out) e ∙ sym (ap (delivered s store out) (f store));
+    }
+
+-- Is a receipt taken and Pending, or final?
+abbrev pub isPending : State → ℕ → Bool
+isPending s i = placeOf (s .receipts) i .taken && is Pending (placeOf (s .receipts) i .receipt)
+
+abbrev pub isFinal : State → ℕ → Bool
+isFinal s i = placeOf (s .receipts) i .taken && final (placeOf (s .receipts) i .receipt)
+
+module _ (s : State) (i : ℕ) {r : Answer} where
+  pub not-pending : (how : ℕ) → isPending s i ≡ false → r ≡ answer 15 s 0 → WithAny r s (λ (store : List ℕ). onReport i how s store)
+  unfolding onReport
+  not-pending how h e = refused-any 15 s (onReport i how s) e (λ store. rw h)
+
+  pub still-waits : (how : ℕ) → waits i s ≡ true → r ≡ answer 15 s 0 → WithAny r s (λ (store : List ℕ). onReport i how s store)
+  unfolding onReport
+  still-waits how h e =
+      let no : isPending s i && not (waits i s) ≡ false = and-false (isPending s i) (ap not h) in
+      refused-any 15 s (onReport i how s) e (λ store. rw no)
+
+  marked-as :
+      (how : ℕ) (t : TxState)
+      → Counts s
+      → isPending s i ≡ true
+      → waits i s ≡ false
+      → cond (eqb how 1) (mark Transmitted i (s .receipts)) (mark Discarded i (s .receipts)) ≡ mark t i (s .receipts)
+      → r ≡ answer 0 (withPlaces s (mark t i (s .receipts))) 0
+      → WithAny r s (λ (store : List ℕ). onReport i how s store)
+  unfolding onReport
+  marked-as how t c p w m e =
+      let yes : isPending s i && not (waits i s) ≡ true = and-true p (ap not w) in
+      accepted-any s (withPlaces s (mark t i (s .receipts))) (onReport i how s) e
+      (λ store.
+      rw yes
+      (ap (λ (ps : List ReceiptPlace). accepted (kept (withReceipts s ps) store [])) m
+      ∙ ap (λ (u : State). accepted (kept u store [])) (relaid-places s (mark t i (s .receipts)) c)))
+
+  pub transmitted :
+      (how : ℕ)
+      → Counts s
+      → isPending s i ≡ true
+      → waits i s ≡ false
+      → how ≡ 1
+      → r ≡ answer 0 (withPlaces s (mark Transmitted i (s .receipts))) 0
+      → WithAny r s (λ (store : List ℕ). onReport i how s store)
+  transmitted how c p w h e = marked-as how Transmitted c p w (rw (eq-eqb how 1 h)) e
+
+  pub discarded :
+      (how : ℕ)
+      → Counts s
+      → isPending s i ≡ true
+      → waits i s ≡ false
+      → (how ≡ 1 → ⊥)
+      → r ≡ answer 0 (withPlaces s (mark Discarded i (s .receipts))) 0
+      → WithAny r s (λ (store : List ℕ). onReport i how s store)
+  discarded how c p w h e = marked-as how Discarded c p w (rw (ne-eqb how 1 h)) e
+
+  -- A release of a receipt that is not final, or whose message is held; the receipt freed.
+  pub not-final : isFinal s i ≡ false → r ≡ answer 16 s 0 → WithAny r s (λ (store : List ℕ). onRelease i s store)
+  unfolding onRelease
+  not-final h e = refused-any 16 s (onRelease i s) e (λ store. rw h)
+
+  pub still-held : held i s ≡ true → r ≡ answer 16 s 0 → WithAny r s (λ (store : List ℕ). onRelease i s store)
+  unfolding onRelease
+  still-held h e =
+      let no : isFinal s i && not (held i s) ≡ false = and-false (isFinal s i) (ap not h) in
+      refused-any 16 s (onRelease i s) e (λ store. rw no)
+
+  pub freed :
+      Counts s
+      → isFinal s i ≡ true
+      → held i s ≡ false
+      → r ≡ answer 0 (withPlaces s (set (s .receipts) i noReceipt)) 0
+      → WithAny r s (λ (store : List ℕ). onRelease i s store)
+  unfolding onRelease
+  freed c p h e =
+      let yes : isFinal s i && not (held i s) ≡ true = and-true p (ap not h) in
+      let t : State = withPlaces s (set (s .receipts) i noReceipt) in
+      accepted-any s t (onRelease i s) e
+      (λ store. rw yes (ap (λ (u : State). accepted (kept u store [])) (relaid-places s (set (s .receipts) i noReceipt) c)))

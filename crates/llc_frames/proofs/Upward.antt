@@ -1,0 +1,153 @@
+-- What goes up of a frame, as the code writes it, and the room that it takes.
+use Prim.Native.Nat.{ℕ, _+_, _-_, _*_, _^_, _≤_, _<_}
+use native.Mathlib.Omega.{arith}
+use mathlib.Core.Path.{_≡_, _∙_, refl, sym, ap}
+use mathlib.Core.Bool.{Bool, true, _&&_}
+use mathlib.Core.List.{List, [], _∷_, _++_, append-nil}
+use borrow.Author.Tests.{leb-true}
+use lib.Dec.{leb}
+use lib.ListN.{length, take, drop, length-take, length-drop}
+use lib.Seq.{take-all, length-take-le}
+use Rattle.bits.specs.Bits.{bits, part}
+use Rattle.bits.proofs.Laws.{length-bits, length-part, part-take}
+use Rattle.llc_pdus.specs.declared.Pdu.{Pdu}
+use Rattle.llc_pdus.specs.declared.Pdu.the-variants.{BlAdata, BlData, BlUdata, BlAck}
+use Rattle.llc_rule.specs.Calls.{Frame}
+use Rattle.llc_rule.specs.Ranges.{isType}
+use Rattle.llc_rule.specs.Received.{upward}
+use Rattle.llc_rule.specs.Records.{bytes, allBytes, indicationBytes}
+use Rattle.llc_rule.proofs.Lists.{both}
+use Rattle.llc_rule.proofs.Records.{small-indication}
+use Rattle.llc_calls.specs.Decoded.{frameOf, FrameInside}
+use Rattle.llc_calls.specs.Ranges.{frameRange}
+use Rattle.llc_calls.specs.declared.FrameCall.{FrameCall}
+use Rattle.llc_records.specs.Wrote.{Wrote}
+use Rattle.llc_records.specs.Records as Records
+use Rattle.llc_records.proofs.Wrote.{same-bytes}
+use Rattle.llc_frames.specs.Upward.{sentUp}
+
+-- What each PDU sends up.
+module _ (f : Frame) (sdu : List ℕ) where
+  alone : (k link : ℕ) (fcs : Bool) → indicationBytes k (sentUp f link fcs sdu) ++ [] ≡ indicationBytes k (sentUp f link fcs sdu)
+  alone k link fcs = append-nil (indicationBytes k (sentUp f link fcs sdu))
+
+  pub adata-up : (c nr ns : Bool) → allBytes (upward f (BlAdata c nr ns) sdu) ≡ indicationBytes 4 (sentUp f (f .link) c sdu)
+  unfolding upward allBytes bytes
+  adata-up c nr ns = alone 4 (f .link) c
+
+  pub data-up : (c ns : Bool) → allBytes (upward f (BlData c ns) sdu) ≡ indicationBytes 4 (sentUp f (f .link) c sdu)
+  unfolding upward allBytes bytes
+  data-up c ns = alone 4 (f .link) c
+
+  pub udata-up : (c : Bool) → allBytes (upward f (BlUdata c) sdu) ≡ indicationBytes 5 (sentUp f 0 c sdu)
+  unfolding upward allBytes bytes
+  udata-up c = alone 5 0 c
+
+pub ack-up :
+    (f : Frame) (sdu : List ℕ) (c nr : Bool)
+    → 0 < length sdu
+    → allBytes (upward f (BlAck c nr) sdu) ≡ indicationBytes 4 (sentUp f 0 c sdu)
+unfolding upward allBytes bytes
+ack-up f [] c nr h = absurd (omega (arith, h))
+ack-up f (b ∷ sdu) c nr h = alone f (b ∷ sdu) 4 0 c
+
+pub none-up : (f : Frame) (sdu : List ℕ) (c nr : Bool) → length sdu ≡ 0 → allBytes (upward f (BlAck c nr) sdu) ≡ []
+unfolding upward allBytes
+none-up f [] c nr h = refl
+none-up f (b ∷ sdu) c nr h = absurd (omega (arith, h))
+
+-- It takes at most 434 bytes.
+pub up-size :
+    (f : Frame) (p : Pdu) (sdu : List ℕ)
+    → length (f .block) ≤ 64
+    → length sdu ≤ 2633
+    → length (allBytes (upward f p sdu)) ≤ 434
+up-size f (BlAdata c nr ns) sdu hb hs = rw (adata-up f sdu c nr ns) (small-indication 4 (sentUp f (f .link) c sdu) hb hs)
+up-size f (BlData c ns) sdu hb hs = rw (data-up f sdu c ns) (small-indication 4 (sentUp f (f .link) c sdu) hb hs)
+up-size f (BlUdata c) sdu hb hs = rw (udata-up f sdu c) (small-indication 5 (sentUp f 0 c sdu) hb hs)
+up-size f (BlAck c nr) [] hb hs = rw (none-up f [] c nr refl) (omega arith)
+up-size f (BlAck c nr) (b ∷ sdu) hb hs =
+    rw (ack-up f (b ∷ sdu) c nr (omega arith)) (small-indication 4 (sentUp f 0 c (b ∷ sdu)) hb hs)
+
+-- What question 5 says of the lengths of a frame.
+pub frame-small : (f : FrameCall) → frameRange f ≡ true → (f .«block_len» ≤ 64) × (f .«pdu_len» ≤ 2633)
+unfolding frameRange
+frame-small f h =
+    let e = both {x = isType (f .«ssi_type») && leb (f .«block_len») 64} {y = leb (f .«pdu_len») 2633} h in
+    (leb-true (f .«block_len») 64 (both {x = isType (f .«ssi_type»)} {y = leb (f .«block_len») 64} (e .0) .1), leb-true (f .«pdu_len») 2633 (e .1))
+
+-- The bytes of the call from a place on, as they are lent.
+pub lent : (b : List ℕ) (at : ℕ) → take (length b - at) (drop at b) ≡ drop at b
+lent b at = take-all (length b - at) (drop at b) (omega (arith, length-drop at b))
+
+module _ (f : FrameCall) (b : List ℕ) (inside : FrameInside f b) (first len : ℕ) (fits : first + len ≤ f .«pdu_len») where
+  -- The SDU as it is lent, and as the frame has it.
+  abbrev sduLent : List ℕ
+  sduLent = part (bits (take (length b - f .pdu) (drop (f .pdu) b))) first len
+
+  abbrev sduOf : List ℕ
+  sduOf = part (frameOf f b .pdu) first len
+
+  lent-long : length (bits (drop (f .pdu) b)) ≡ 8 * length b - 8 * f .pdu
+  lent-long = length-bits (drop (f .pdu) b) ∙ omega (arith, length-drop (f .pdu) b)
+
+  sdu-is : sduLent ≡ sduOf
+  unfolding frameOf
+  sdu-is =
+      ap (λ (l : List ℕ). part (bits l) first len) (lent b (f .pdu))
+      ∙ sym (part-take (bits (drop (f .pdu) b)) (f .«pdu_len») first len fits (omega (arith, lent-long, inside .parts .bitsIn)))
+
+  pub sdu-long : length sduOf ≡ len
+  unfolding frameOf
+  sdu-long =
+      let l : List ℕ = bits (drop (f .pdu) b) in
+      length-part (take (f .«pdu_len») l) first len
+      (omega (arith, length-take-le (f .«pdu_len») l (omega (arith, lent-long, inside .parts .bitsIn))))
+
+  -- The record that goes up, as it is lent, and as the frame has it.
+  abbrev bytesLent : ℕ → ℕ → Bool → List ℕ
+  bytesLent kind link fcs =
+      indicationBytes kind
+      (Records.indication
+      (record { ssi = f .ssi; «ssi_type» = f .«ssi_type»; link = link; endpoint = f .endpoint; «has_fcs» = fcs })
+      (part b (f .block) (f .«block_len»))
+      sduLent)
+
+  bytes-are : (kind link : ℕ) (fcs : Bool) → bytesLent kind link fcs ≡ indicationBytes kind (sentUp (frameOf f b) link fcs sduOf)
+  unfolding frameOf
+  bytes-are kind link fcs = ap (λ (sdu : List ℕ). indicationBytes kind (sentUp (frameOf f b) link fcs sdu)) sdu-is
+
+  pub wrote-sdu :
+      (kind link : ℕ) (fcs : Bool) {out m : List ℕ} {r : ℕ}
+      → Wrote out 0 (bytesLent kind link fcs) m r
+      → Wrote out 0 (indicationBytes kind (sentUp (frameOf f b) link fcs sduOf)) m r
+  wrote-sdu kind link fcs w = same-bytes (bytes-are kind link fcs) w
+
+  -- There is room for it, and its parts lie in the call.
+  pub asks-sdu :
+      (kind link : ℕ) (fcs : Bool) (n : ℕ)
+      → frameRange f ≡ true
+      → 46656 ≤ n
+      → (f .«block_len» < 2 ^ 16)
+      × ((f .block + f .«block_len» ≤ length b)
+      × ((len < 2 ^ 16)
+      × ((first + len ≤ 8 * length (take (length b - f .pdu) (drop (f .pdu) b)))
+      × ((first + len < 2 ^ 64) × (0 + length (bytesLent kind link fcs) ≤ n)))))
+  unfolding frameOf
+  asks-sdu kind link fcs n h long =
+      let small = frame-small f h in
+      let k = length-take (f .«block_len») (drop (f .block) b) in
+      let up = small-indication kind (sentUp (frameOf f b) link fcs sduOf) (omega arith) (omega (arith, sdu-long)) in
+      let same = ap length (bytes-are kind link fcs) in
+      let is : length (take (length b - f .pdu) (drop (f .pdu) b)) ≡ length b - f .pdu =
+      ap length (lent b (f .pdu)) ∙ length-drop (f .pdu) b in
+      (omega arith, (inside .parts .blockIn, (omega arith, (omega (arith, inside .parts .bitsIn), (omega arith, omega arith)))))
+
+-- What was written is what a PDU sends up.
+pub wrote-up :
+    (f : Frame) (sdu : List ℕ) {p q : Pdu} {vs out m : List ℕ} {r : ℕ}
+    → p ≡ q
+    → allBytes (upward f q sdu) ≡ vs
+    → Wrote out 0 vs m r
+    → Wrote out 0 (allBytes (upward f p sdu)) m r
+wrote-up f sdu e h w = same-bytes (sym (ap (λ (x : Pdu). allBytes (upward f x sdu)) e ∙ h)) w

@@ -1,0 +1,4 @@
+pub mod Answered
+pub mod Numbers
+pub mod Reading
+pub mod Upward

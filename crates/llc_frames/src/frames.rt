@@ -1,0 +1,276 @@
+// A frame that came in: an acknowledgement for it becomes due, its own finishes a message, and its SDU goes up.
+ghost use Prim.Native.Nat.{ℕ, _+_, _≤_};
+ghost use mathlib.Core.Path.{_≡_};
+ghost use mathlib.Core.Bool.{true};
+ghost use mathlib.Core.List.{List};
+ghost use lib.ListN.{length};
+ghost use Rattle.bits.specs.Bits.{part};
+ghost use Rattle.questions.specs.Outcome.{accepted};
+ghost use Rattle.tdma_time.specs.Slots.{valid};
+ghost use Rattle.llc_rule.specs.Lists.{all};
+ghost use Rattle.llc_rule.specs.Messages.{slotBefore};
+ghost use Rattle.llc_rule.specs.Received.{received, nsOf, nrOf, upward};
+ghost use Rattle.llc_rule.specs.Records.{allBytes, indicationBytes};
+ghost use Rattle.llc_calls.specs.Decoded.{frameOf, FrameInside};
+ghost use Rattle.llc_calls.specs.Ranges.{frameRange};
+ghost use Rattle.llc_records.specs.Wrote.{Wrote};
+ghost use Rattle.llc_state.specs.Ranges.{entryInRange, inRange};
+ghost use Rattle.llc_steps.specs.Answers.{WithAnyStore};
+ghost use Rattle.llc_steps.specs.Calls.{ackRoom, fits as fitsTo, finishable, onReceived};
+ghost use Rattle.llc_steps.specs.States.{messagesOf, withAcks};
+ghost use Rattle.llc_frames.specs.Answered.{foundAt, answeredAt};
+ghost use Rattle.llc_frames.specs.Numbers.{nsIn, nrIn, dueTo};
+ghost use Rattle.llc_frames.specs.Upward.{sentUp};
+use crate::reading::Reading;
+use crate::reading::read;
+use llc_calls::FrameCall;
+use llc_pdus::Pdu;
+use llc_queues::expected_ack_for_ssi;
+use llc_queues::push_front_expected_ack;
+use llc_queues::schedule_outgoing_ack;
+use llc_queues::take_expected_ack;
+use llc_records::IndicationRecord;
+use llc_records::put_indication;
+use llc_state::Entry;
+use llc_state::ScheduledOutAck;
+use llc_state::State;
+use llc_steps::Answer;
+use tdma_time::Moved;
+use tdma_time::TdmaTime;
+use tx_receipt::TxState;
+
+// The sequence numbers of a PDU.
+struct SeqNumbers {
+    has_ns: bool,
+    ns: bool,
+    has_nr: bool,
+    nr: bool,
+}
+
+// The N(S) and the N(R) of a PDU.
+fn seq_numbers(pdu: Pdu) -> SeqNumbers
+    ensures { λ r. ⌜ nsIn r ≡ nsOf pdu ⌝ }
+    ensures { λ r. ⌜ nrIn r ≡ nrOf pdu ⌝ }
+{
+    match pdu {
+        Pdu::BlAdata { has_fcs: _, nr, ns } => SeqNumbers {
+            has_ns: true,
+            ns,
+            has_nr: true,
+            nr,
+        },
+        Pdu::BlData { has_fcs: _, ns } => SeqNumbers {
+            has_ns: true,
+            ns,
+            has_nr: false,
+            nr: false,
+        },
+        Pdu::BlUdata { has_fcs: _ } => SeqNumbers {
+            has_ns: false,
+            ns: false,
+            has_nr: false,
+            nr: false,
+        },
+        Pdu::BlAck { has_fcs: _, nr } => SeqNumbers {
+            has_ns: false,
+            ns: false,
+            has_nr: true,
+            nr,
+        },
+    }
+}
+
+// The slot two before now, in which a message on the uplink was sent.
+fn slot_before(time: TdmaTime) -> u8
+    requires { ⌜ valid time ≡ true ⌝ }
+    ensures { λ r. ⌜ r ≡ slotBefore time ⌝ }
+{
+    match time.add_timeslots(-2) {
+        Moved::To(sent) => sent.t,
+        Moved::OutOfRange => 0,
+    }
+}
+
+// One record that goes up, from the front of the output on: its SDU is len bits of the frame's PDU from bit first on.
+fn put_sdu(
+    out: &mut [u8],
+    f: FrameCall,
+    bytes: &[u8],
+    kind: u8,
+    link: u32,
+    has_fcs: bool,
+    first: usize,
+    len: usize,
+) -> usize
+    requires { ⌜ 46656 ≤ length (now out) ⌝ }
+    requires { ⌜ frameRange f ≡ true ⌝ }
+    requires { ⌜ FrameInside f (now bytes) ⌝ }
+    requires { ⌜ first + len ≤ f .«pdu_len» ⌝ }
+    ensures { λ r. ⌜ Wrote (now (out .entry)) 0 (indicationBytes kind (sentUp (frameOf f (now (bytes .entry))) link «has_fcs» (part (frameOf f (now (bytes .entry)) .pdu) first len))) (now (out .exit)) r ⌝ }
+{
+    let at = f.pdu;
+    let s = IndicationRecord {
+        ssi: f.ssi,
+        ssi_type: f.ssi_type,
+        link,
+        endpoint: f.endpoint,
+        has_fcs,
+    };
+    put_indication(
+        out,
+        0,
+        kind,
+        s,
+        bytes,
+        f.block,
+        f.block_len,
+        &bytes[at..],
+        first,
+        len,
+    )
+}
+
+// What goes up of a frame: its SDU, as TL-UNITDATA after BL-UDATA, else as TL-DATA, and with its link id after BL-DATA and
+// BL-ADATA alone. Of a BL-ACK with nothing left nothing goes up.
+fn put_upward(
+    out: &mut [u8],
+    f: FrameCall,
+    bytes: &[u8],
+    pdu: Pdu,
+    first: usize,
+    len: usize,
+) -> usize
+    requires { ⌜ 46656 ≤ length (now out) ⌝ }
+    requires { ⌜ frameRange f ≡ true ⌝ }
+    requires { ⌜ FrameInside f (now bytes) ⌝ }
+    requires { ⌜ first + len ≤ f .«pdu_len» ⌝ }
+    ensures { λ r. ⌜ Wrote (now (out .entry)) 0 (allBytes (upward (frameOf f (now (bytes .entry))) pdu (part (frameOf f (now (bytes .entry)) .pdu) first len))) (now (out .exit)) r ⌝ }
+{
+    match pdu {
+        Pdu::BlAdata {
+            has_fcs,
+            nr: _,
+            ns: _,
+        } => put_sdu(out, f, bytes, 4, f.link, has_fcs, first, len),
+        Pdu::BlData { has_fcs, ns: _ } => put_sdu(out, f, bytes, 4, f.link, has_fcs, first, len),
+        Pdu::BlUdata { has_fcs } => put_sdu(out, f, bytes, 5, 0, has_fcs, first, len),
+        Pdu::BlAck { has_fcs, nr: _ } => {
+            if len == 0 {
+                return 0;
+            }
+            put_sdu(out, f, bytes, 4, 0, has_fcs, first, len)
+        }
+    }
+}
+
+// Does an N(R) fit a message: was its transmission noted, and is the N(R) its N(S)?
+fn fits(e: Entry, nr: bool) -> bool
+    ensures { λ r. ⌜ r ≡ fitsTo nr e ⌝ }
+{
+    e.has_umac_done & (e.ns == nr)
+}
+
+// If an N(R) finishes the message of a place, is its receipt taken and Transmitted?
+fn may_finish(state: State, i: usize, nr: bool) -> bool
+    requires { ⌜ inRange state ≡ true ⌝ }
+    ensures { λ r. ⌜ r ≡ finishable nr (foundAt i (messagesOf state)) state ⌝ }
+{
+    if state.n_messages <= i {
+        return true;
+    }
+    let e = state.outbound_messages[i];
+    if !fits(e, nr) {
+        return true;
+    }
+    let receipt = e.receipt as usize;
+    let place = state.receipts[receipt];
+    let tx = place.receipt;
+    place.taken & (tx.get_state().raw() == 2)
+}
+
+// An acknowledgement for the message of a place: it finishes the message, or the message goes back to the head of the queue.
+fn process_incoming_ack(state: State, i: usize, nr: bool) -> State
+    requires { ⌜ state .«n_messages» ≤ 64 ⌝ }
+    requires { ⌜ all entryInRange (messagesOf state) ≡ true ⌝ }
+    ensures { λ r. ⌜ r ≡ answeredAt nr (foundAt i (messagesOf state)) state ⌝ }
+{
+    if state.n_messages <= i {
+        return state;
+    }
+    let e = state.outbound_messages[i];
+    if fits(e, nr) {
+        let receipt = e.receipt as usize;
+        return take_expected_ack(state, i).mark_receipt(receipt, TxState::Acknowledged);
+    }
+    push_front_expected_ack(state, i)
+}
+
+// A frame with an N(S) makes an acknowledgement due.
+fn acknowledge(state: State, f: FrameCall, numbers: SeqNumbers) -> State
+    requires { ⌜ inRange state ≡ true ⌝ }
+    requires { ⌜ ackRoom (nsIn numbers) state ≡ true ⌝ }
+    ensures { λ r. ⌜ r ≡ withAcks state (dueTo f (nsIn numbers) state) ⌝ }
+{
+    if !numbers.has_ns {
+        return state;
+    }
+    let ack = ScheduledOutAck {
+        ssi: f.ssi,
+        ssi_type: f.ssi_type,
+        carrier_num: f.carrier,
+        nr: numbers.ns,
+        ts: slot_before(state.dltime),
+    };
+    schedule_outgoing_ack(state, ack)
+}
+
+// A frame that was read: its PDU, and the first bit and the length of its SDU.
+fn rx_tma_unitdata_ind_bl(
+    state: State,
+    out: &mut [u8],
+    f: FrameCall,
+    bytes: &[u8],
+    pdu: Pdu,
+    first: usize,
+    len: usize,
+) -> Answer
+    requires { ⌜ inRange state ≡ true ⌝ }
+    requires { ⌜ 46656 ≤ length (now out) ⌝ }
+    requires { ⌜ frameRange f ≡ true ⌝ }
+    requires { ⌜ FrameInside f (now bytes) ⌝ }
+    requires { ⌜ first + len ≤ f .«pdu_len» ⌝ }
+    ensures { λ r. ⌜ WithAnyStore r (now (out .exit)) state (now (out .entry)) (λ (store : List ℕ). onReceived (frameOf f (now (bytes .entry))) (accepted (record { header = pdu; sdu = part (frameOf f (now (bytes .entry)) .pdu) first len })) state store) ⌝ }
+{
+    let numbers = seq_numbers(pdu);
+    if numbers.has_ns & (64 <= state.n_acks) {
+        return Answer::refused(13, state);
+    }
+    if !numbers.has_nr {
+        let n = put_upward(out, f, bytes, pdu, first, len);
+        return Answer::accepted(acknowledge(state, f, numbers), n);
+    }
+    let i = expected_ack_for_ssi(state, f.ssi, f.carrier);
+    if !may_finish(state, i, numbers.nr) {
+        return Answer::refused(14, state);
+    }
+    let n = put_upward(out, f, bytes, pdu, first, len);
+    let next = acknowledge(state, f, numbers);
+    Answer::accepted(process_incoming_ack(next, i, numbers.nr), n)
+}
+
+/// A frame.
+pub fn rx_tma_unitdata_ind(state: State, out: &mut [u8], f: FrameCall, bytes: &[u8]) -> Answer
+    requires { ⌜ inRange state ≡ true ⌝ }
+    requires { ⌜ 46656 ≤ length (now out) ⌝ }
+    requires { ⌜ frameRange f ≡ true ⌝ }
+    requires { ⌜ FrameInside f (now bytes) ⌝ }
+    ensures { λ r. ⌜ WithAnyStore r (now (out .exit)) state (now (out .entry)) (λ (store : List ℕ). onReceived (frameOf f (now (bytes .entry))) (received (frameOf f (now (bytes .entry)) .pdu)) state store) ⌝ }
+{
+    let at = f.pdu;
+    match read(&bytes[at..], f.pdu_len) {
+        Reading::Frame(pdu, first, len) => {
+            rx_tma_unitdata_ind_bl(state, out, f, bytes, pdu, first, len)
+        }
+        Reading::Refused(number) => Answer::refused(number, state),
+    }
+}

@@ -1,0 +1,63 @@
+// A frame taken apart, with questions 9 to 12.
+ghost use Prim.Native.Nat.{_*_, _≤_};
+ghost use mathlib.Core.Path.{_≡_};
+ghost use lib.ListN.{length, take};
+ghost use Rattle.bits.specs.Bits.{bits};
+ghost use Rattle.llc_pdus.specs.Headers.{hasFcs};
+ghost use Rattle.llc_rule.specs.Received.{received};
+ghost use Rattle.llc_frames.specs.Reading.{readingOf, SduInside};
+use fcs::Checked;
+use fcs::check_fcs;
+use llc_pdus::Pdu;
+use llc_pdus::Read;
+use llc_pdus::from_bitbuf;
+use llc_pdus::sdu_bytes;
+
+// What reading a frame gives.
+pub(crate) enum Reading {
+    // A PDU, and the first bit and the length of its SDU.
+    Frame(Pdu, usize, usize),
+    // The number of the first question failed.
+    Refused(u8),
+}
+
+// The FCS flag of a PDU.
+pub(crate) fn has_fcs(pdu: Pdu) -> bool
+    ensures { λ r. ⌜ r ≡ hasFcs pdu ⌝ }
+{
+    match pdu {
+        Pdu::BlAdata {
+            has_fcs,
+            nr: _,
+            ns: _,
+        } => has_fcs,
+        Pdu::BlData { has_fcs, ns: _ } => has_fcs,
+        Pdu::BlUdata { has_fcs } => has_fcs,
+        Pdu::BlAck { has_fcs, nr: _ } => has_fcs,
+    }
+}
+
+// The PDU of the first bits of the lent bytes, and where its SDU lies; the check runs over the part that holds the SDU.
+pub(crate) fn read(frame: &[u8], len: usize) -> Reading
+    requires { ⌜ len ≤ 8 * length (now frame) ⌝ }
+    ensures { λ r. ⌜ readingOf r (take len (bits (now (frame .entry)))) ≡ received (take len (bits (now (frame .entry)))) ⌝ }
+    ensures { λ r. ⌜ SduInside r len ⌝ }
+{
+    match from_bitbuf(frame, len) {
+        Read::Frame(pdu, sdu) => {
+            if !has_fcs(pdu) {
+                return Reading::Frame(pdu, sdu.first, sdu.len);
+            }
+            let part = sdu_bytes(frame, sdu);
+            match check_fcs(part, sdu.place, sdu.len) {
+                Checked::Right => Reading::Frame(pdu, sdu.first, sdu.len),
+                Checked::Wrong => Reading::Refused(12),
+                Checked::OutOfRange => Reading::Refused(12),
+            }
+        }
+        Read::TooShort => Reading::Refused(9),
+        Read::NotBasic => Reading::Refused(10),
+        Read::NoHeader => Reading::Refused(11),
+        Read::OutOfRange => Reading::Refused(5),
+    }
+}

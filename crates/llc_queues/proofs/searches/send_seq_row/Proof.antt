@@ -1,0 +1,57 @@
+use Prim.Native.Nat.{_-_}
+use borrow.Author.Tests.{eq-eqb, ne-eqb}
+use borrow.Author.Needs.{needs}
+use Rattle.llc_state.proofs.Lengths.{lengths}
+use Rattle.llc_steps.specs.Queues.{rowOf}
+use Rattle.llc_queues.proofs.Searching.{Searching, begins, goes-on, found, ends}
+use Rattle.llc_queues.proofs.searches.send_seq_row.Statement.{statement}
+use Rattle.llc_queues.proofs.searches.send_seq_row.Tie as tie
+
+abbrev Inv-loop : tie.InvT-loop
+Inv-loop ssi state i₀ i = Searching (rowOf ssi) 256 (state .«n_rows») (state .«link_send_seq») i
+
+abbrev μ-loop : tie.MeasureT-loop
+μ-loop ssi state i₀ i = state .«n_rows» - i
+
+loop-holds : tie.Need-loop-holds Inv-loop μ-loop
+loop-holds c = begins _ (c .pre) (lengths (c .args .t1) (c .good .0) .rows)
+
+mul-row : tie.Need-mul-row Inv-loop μ-loop
+mul-row c = search needs
+
+element-copy-out-row : tie.Need-element-copy-out-row Inv-loop μ-loop
+element-copy-out-row c = search needs
+
+returns : tie.Need-returns Inv-loop μ-loop
+returns c =
+    let b = c .before .before .before in
+    found (b .before .loop .inv) _ (b .loop-test .taken) (eq-eqb _ _ (c .if1 .taken))
+
+add-i : tie.Need-add-i Inv-loop μ-loop
+add-i c = search needs
+
+loop-less : tie.Need-loop-less Inv-loop μ-loop
+loop-less c = search needs
+
+loop-again : tie.Need-loop-again Inv-loop μ-loop
+loop-again c =
+    let b = c .before .before .before in
+    goes-on (b .before .loop .inv) _ (b .loop-test .taken) (ne-eqb _ _ (c .if1 .left))
+
+returns-2 : tie.Need-returns-2 Inv-loop μ-loop
+returns-2 c = ends (c .before .loop .inv) (c .loop-test .left)
+
+pub send-seq-row-spec : {M : Type 1} → statement M
+send-seq-row-spec =
+    tie.close
+    (tie.spec
+    Inv-loop
+    μ-loop
+    loop-holds
+    mul-row
+    element-copy-out-row
+    returns
+    add-i
+    loop-less
+    loop-again
+    returns-2)

@@ -1,0 +1,88 @@
+use Prim.Native.Nat.{_-_}
+use native.Mathlib.Omega.{arith}
+use Rattle.llc_state.proofs.Lengths.{lengths}
+use Rattle.llc_queues.proofs.Arrays.{messages}
+use Rattle.llc_queues.proofs.Shifting.{Taking, taking-begins, taking-goes-on, taking-ends}
+use borrow.Author.Needs.{needs}
+use Rattle.llc_queues.proofs.updates.take_expected_ack.Statement.{statement}
+use Rattle.llc_queues.proofs.updates.take_expected_ack.Tie as tie
+
+abbrev Inv-loop : tie.InvT-loop
+Inv-loop i n next₀ j₀ next j = Taking messages next₀ i next j
+
+abbrev μ-loop : tie.MeasureT-loop
+μ-loop i n next₀ j₀ next j = n - j
+
+loop-holds : tie.Need-loop-holds Inv-loop μ-loop
+loop-holds c =
+    let s = c .args .state in
+    let len = lengths s (c .good .0) in
+    taking-begins messages s _ (omega arith) (omega (arith, len .messages))
+
+add-loop : tie.Need-add-loop Inv-loop μ-loop
+add-loop c = search needs
+
+add-next : tie.Need-add-next Inv-loop μ-loop
+add-next c = search needs
+
+mul-next : tie.Need-mul-next Inv-loop μ-loop
+mul-next c = search needs
+
+element-copy-out-next : tie.Need-element-copy-out-next Inv-loop μ-loop
+element-copy-out-next c = search needs
+
+mul-t12 : tie.Need-mul-t12 Inv-loop μ-loop
+mul-t12 c = search needs
+
+element-set-from-next : tie.Need-element-set-from-next Inv-loop μ-loop
+element-set-from-next c = search needs
+
+add-j : tie.Need-add-j Inv-loop μ-loop
+add-j c = search needs
+
+loop-less : tie.Need-loop-less Inv-loop μ-loop
+loop-less c = search needs
+
+loop-again : tie.Need-loop-again Inv-loop μ-loop
+loop-again c = taking-goes-on messages _ _ (c .before .before .loop .inv) (c .before .loop-test .taken)
+
+empty-requires : tie.Need-empty-requires Inv-loop μ-loop
+empty-requires c κs = search needs
+
+sub-t16 : tie.Need-sub-t16 Inv-loop μ-loop
+sub-t16 c = search needs
+
+mul-t17 : tie.Need-mul-t17 Inv-loop μ-loop
+mul-t17 c = search needs
+
+element-set-from-next-2 : tie.Need-element-set-from-next-2 Inv-loop μ-loop
+element-set-from-next-2 c = search needs
+
+sub-next : tie.Need-sub-next Inv-loop μ-loop
+sub-next c = search needs
+
+returns : tie.Need-returns Inv-loop μ-loop
+returns c = taking-ends messages _ _ (c .before .before .loop .inv) (c .empty .ensures) (c .before .loop-test .left)
+
+pub take-expected-ack-spec : {M : Type 1} → statement M
+take-expected-ack-spec =
+    tie.close
+    (tie.spec
+    Inv-loop
+    μ-loop
+    loop-holds
+    add-loop
+    add-next
+    mul-next
+    element-copy-out-next
+    mul-t12
+    element-set-from-next
+    add-j
+    loop-less
+    loop-again
+    empty-requires
+    sub-t16
+    mul-t17
+    element-set-from-next-2
+    sub-next
+    returns)

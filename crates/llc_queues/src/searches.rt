@@ -1,0 +1,136 @@
+// Searches: each goes through what is in use, oldest first.
+ghost use Prim.Native.Nat.{_≤_};
+ghost use mathlib.Core.Path.{_≡_};
+ghost use Rattle.llc_steps.specs.States.{messagesOf, acksOf, rowsOf};
+ghost use Rattle.llc_steps.specs.Queues.{position, ackOn, rowOf, expectedOn};
+ghost use Rattle.llc_steps.specs.Places.{freePlace};
+ghost use Rattle.llc_steps.specs.Calls.{held, waits as waitsIn};
+use llc_state::State;
+
+/// The place of the oldest acknowledgement due on an SSI and carrier; the count if there is none.
+pub fn out_ack_if_any(state: State, ssi: u32, carrier_num: u16) -> usize
+    requires { ⌜ state .«n_acks» ≤ 64 ⌝ }
+    ensures { λ r. ⌜ r ≡ position (ackOn ssi «carrier_num») (acksOf state) ⌝ }
+{
+    let mut i = 0;
+    while i < state.n_acks {
+        let ack = state.scheduled_out_acks[i];
+        if (ack.ssi == ssi) & (ack.carrier_num == carrier_num) {
+            return i;
+        }
+        i += 1;
+    }
+    i
+}
+
+/// The place of an SSI's row; the count if it has none.
+pub fn send_seq_row(state: State, ssi: u32) -> usize
+    requires { ⌜ state .«n_rows» ≤ 256 ⌝ }
+    ensures { λ r. ⌜ r ≡ position (rowOf ssi) (rowsOf state) ⌝ }
+{
+    let mut i = 0;
+    while i < state.n_rows {
+        let row = state.link_send_seq[i];
+        if row.ssi == ssi {
+            return i;
+        }
+        i += 1;
+    }
+    i
+}
+
+/// The place of the message of an SSI on a carrier that was passed down; the count if there is none.
+pub fn expected_ack_for_ssi(state: State, ssi: u32, carrier_num: u16) -> usize
+    requires { ⌜ state .«n_messages» ≤ 64 ⌝ }
+    ensures { λ r. ⌜ r ≡ position (expectedOn ssi «carrier_num») (messagesOf state) ⌝ }
+{
+    let mut i = 0;
+    while i < state.n_messages {
+        let e = state.outbound_messages[i];
+        if (e.ssi == ssi) & ((e.carrier_num == carrier_num) & e.submitted_to_umac) {
+            return i;
+        }
+        i += 1;
+    }
+    i
+}
+
+/// Is the message of a receipt held?
+pub fn holds(state: State, receipt: u8) -> bool
+    requires { ⌜ state .«n_messages» ≤ 64 ⌝ }
+    requires { ⌜ state .«n_udata» ≤ 32 ⌝ }
+    ensures { λ r. ⌜ r ≡ held receipt state ⌝ }
+{
+    let mut i = 0;
+    while i < state.n_messages {
+        if state.outbound_messages[i].receipt == receipt {
+            return true;
+        }
+        i += 1;
+    }
+    let mut j = 0;
+    while j < state.n_udata {
+        if state.outbound_udata_messages[j].receipt == receipt {
+            return true;
+        }
+        j += 1;
+    }
+    false
+}
+
+/// Is the message of a receipt held, and was it not passed down yet?
+pub fn waits(state: State, receipt: u8) -> bool
+    requires { ⌜ state .«n_messages» ≤ 64 ⌝ }
+    requires { ⌜ state .«n_udata» ≤ 32 ⌝ }
+    ensures { λ r. ⌜ r ≡ waitsIn receipt state ⌝ }
+{
+    let mut i = 0;
+    while i < state.n_messages {
+        let e = state.outbound_messages[i];
+        if (e.receipt == receipt) & !e.submitted_to_umac {
+            return true;
+        }
+        i += 1;
+    }
+    let mut j = 0;
+    while j < state.n_udata {
+        if state.outbound_udata_messages[j].receipt == receipt {
+            return true;
+        }
+        j += 1;
+    }
+    false
+}
+
+/// The first place of the store that no held message has.
+pub fn free_place(state: State) -> usize
+    requires { ⌜ state .«n_messages» ≤ 64 ⌝ }
+    requires { ⌜ state .«n_udata» ≤ 32 ⌝ }
+    ensures { λ r. ⌜ r ≡ freePlace state ⌝ }
+{
+    let mut used = [false; 96];
+    let mut i = 0;
+    while i < state.n_messages {
+        let place = state.outbound_messages[i].place;
+        if place < 96 {
+            used[place] = true;
+        }
+        i += 1;
+    }
+    let mut j = 0;
+    while j < state.n_udata {
+        let place = state.outbound_udata_messages[j].place;
+        if place < 96 {
+            used[place] = true;
+        }
+        j += 1;
+    }
+    let mut p = 0;
+    while p < 96 {
+        if !used[p] {
+            return p;
+        }
+        p += 1;
+    }
+    0
+}

@@ -1,0 +1,4 @@
+pub mod Blocks
+pub mod Stores
+pub mod Puts
+pub mod Asked

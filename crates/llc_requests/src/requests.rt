@@ -1,0 +1,209 @@
+// The two requests.
+ghost use Prim.Native.Nat.{_≤_, _<_};
+ghost use mathlib.Core.Path.{_≡_};
+ghost use mathlib.Core.Bool.{true, cond};
+ghost use lib.Dec.{eqb, ltb};
+ghost use lib.ListN.{length, getD};
+ghost use Rattle.bits.specs.Bits.{bits};
+ghost use Rattle.questions.specs.Outcome.{accepted};
+ghost use Rattle.llc_calls.specs.Decoded.{requestOf, RequestInside};
+ghost use Rattle.llc_calls.specs.Ranges.{requestRange};
+ghost use Rattle.llc_pdus.specs.declared.Pdu.the-variants.{BlAdata, BlData};
+ghost use Rattle.llc_state.specs.Ranges.{inRange};
+ghost use Rattle.llc_state.specs.States.{noAck, noRow};
+ghost use Rattle.llc_steps.specs.Answers.{WithAnyOut};
+ghost use Rattle.llc_steps.specs.States.{acksOf, rowsOf};
+ghost use Rattle.llc_steps.specs.Queues.{position, rowOf, without};
+ghost use Rattle.llc_steps.specs.Calls.{withAcknowledged, withUnacknowledged, onData, onUnitdata};
+use crate::entries::entry_of;
+use crate::entries::put_frame;
+use llc_calls::RequestCall;
+use llc_pdus::Pdu;
+use llc_queues::free_place;
+use llc_queues::out_ack_if_any;
+use llc_queues::push_message;
+use llc_queues::push_udata_message;
+use llc_queues::send_seq_row;
+use llc_queues::set_send_seq;
+use llc_queues::take_out_ack;
+use llc_state::LinkSendSeq;
+use llc_state::State;
+use llc_steps::Answer;
+
+// The carrier of a request: the one given, else the main carrier.
+fn preferred_carrier(q: RequestCall, main_carrier: u16) -> u16
+    ensures { λ r. ⌜ r ≡ cond (eqb (q .given) 1) (q .carrier) «main_carrier» ⌝ }
+{
+    if q.given == 1 {
+        return q.carrier;
+    }
+    main_carrier
+}
+
+// The bit of the row of a place; not set where there is none yet.
+fn send_seq(state: State, row: usize) -> bool
+    requires { ⌜ state .«n_rows» ≤ 256 ⌝ }
+    ensures { λ r. ⌜ r ≡ getD (rowsOf state) row noRow .vs ⌝ }
+{
+    if state.n_rows <= row {
+        return false;
+    }
+    state.link_send_seq[row].vs
+}
+
+// BL-ADATA with the N(R) of the acknowledgement due at a place, or BL-DATA where there is none.
+fn data_pdu(state: State, ack: usize, has_fcs: bool, ns: bool) -> Pdu
+    requires { ⌜ state .«n_acks» ≤ 64 ⌝ }
+    ensures { λ r. ⌜ r ≡ cond (ltb ack (state .«n_acks»)) (BlAdata «has_fcs» (getD (acksOf state) ack noAck .nr) ns) (BlData «has_fcs» ns) ⌝ }
+{
+    if state.n_acks <= ack {
+        return Pdu::BlData { has_fcs, ns };
+    }
+    Pdu::BlAdata {
+        has_fcs,
+        nr: state.scheduled_out_acks[ack].nr,
+        ns,
+    }
+}
+
+// Puts a message last that is to be acknowledged, for the row of a place.
+fn put_acknowledged(
+    state: State,
+    store: &mut [u8],
+    q: RequestCall,
+    bytes: &[u8],
+    row: usize,
+) -> Answer
+    requires { ⌜ inRange state ≡ true ⌝ }
+    requires { ⌜ length (now store) ≡ 32256 ⌝ }
+    requires { ⌜ requestRange q ≡ true ⌝ }
+    requires { ⌜ RequestInside q (now bytes) ⌝ }
+    requires { ⌜ row ≡ position (rowOf (q .ssi)) (rowsOf state) ⌝ }
+    requires { ⌜ row < 256 ⌝ }
+    requires { ⌜ state .«n_messages» < 64 ⌝ }
+    ensures { λ r. ⌜ WithAnyOut r (bits (now (store .exit))) state (bits (now (store .entry))) (accepted (withAcknowledged (requestOf q (now (bytes .entry))) state (bits (now (store .entry))))) ⌝ }
+{
+    let carrier = preferred_carrier(q, state.main_carrier);
+    let ack = out_ack_if_any(state, q.ssi, carrier);
+    let ns = send_seq(state, row);
+    let pdu = data_pdu(state, ack, q.flags / 2 % 2 == 1, ns);
+    let place = free_place(state);
+    let len = put_frame(store, place, pdu, q, bytes);
+    let e = entry_of(q, bytes, carrier, 0, place, len, ns);
+    let next = push_message(take_out_ack(state, ack), e);
+    let next = next.take_receipt(q.receipt as usize, true);
+    let next = set_send_seq(
+        next,
+        row,
+        LinkSendSeq {
+            ssi: q.ssi,
+            vs: !ns,
+        },
+    );
+    Answer::accepted(next, 0)
+}
+
+// Puts a message last that is not acknowledged, behind a header, and takes the due acknowledgement of a place out.
+fn put_unacknowledged(
+    state: State,
+    store: &mut [u8],
+    q: RequestCall,
+    bytes: &[u8],
+    link: u32,
+    pdu: Pdu,
+    ack: usize,
+) -> Answer
+    requires { ⌜ inRange state ≡ true ⌝ }
+    requires { ⌜ length (now store) ≡ 32256 ⌝ }
+    requires { ⌜ requestRange q ≡ true ⌝ }
+    requires { ⌜ RequestInside q (now bytes) ⌝ }
+    requires { ⌜ state .«n_udata» < 32 ⌝ }
+    requires { ⌜ ack ≤ state .«n_acks» ⌝ }
+    ensures { λ r. ⌜ WithAnyOut r (bits (now (store .exit))) state (bits (now (store .entry))) (accepted (withUnacknowledged (requestOf q (now (bytes .entry))) link pdu (without ack (acksOf state)) state (bits (now (store .entry))))) ⌝ }
+{
+    let carrier = preferred_carrier(q, state.main_carrier);
+    let place = free_place(state);
+    let len = put_frame(store, place, pdu, q, bytes);
+    let e = entry_of(q, bytes, carrier, link, place, len, false);
+    let next = push_udata_message(take_out_ack(state, ack), e);
+    let next = next.take_receipt(q.receipt as usize, false);
+    Answer::accepted(next, 0)
+}
+
+/// A data request.
+pub fn rx_tla_tldata_req_bl(state: State, store: &mut [u8], q: RequestCall, bytes: &[u8]) -> Answer
+    requires { ⌜ inRange state ≡ true ⌝ }
+    requires { ⌜ length (now store) ≡ 32256 ⌝ }
+    requires { ⌜ requestRange q ≡ true ⌝ }
+    requires { ⌜ RequestInside q (now bytes) ⌝ }
+    ensures { λ r. ⌜ WithAnyOut r (bits (now (store .exit))) state (bits (now (store .entry))) (onData (requestOf q (now (bytes .entry))) state (bits (now (store .entry)))) ⌝ }
+{
+    if state.receipts[q.receipt as usize].taken {
+        return Answer::refused(6, state);
+    }
+    let steals = q.flags % 2 == 1;
+    if (q.ssi_type == 1) & !steals {
+        let row = send_seq_row(state, q.ssi);
+        if 256 <= row {
+            return Answer::refused(7, state);
+        }
+        if 64 <= state.n_messages {
+            return Answer::refused(8, state);
+        }
+        return put_acknowledged(state, store, q, bytes, row);
+    }
+    if 32 <= state.n_udata {
+        return Answer::refused(8, state);
+    }
+    if steals {
+        let ack = out_ack_if_any(state, q.ssi, preferred_carrier(q, state.main_carrier));
+        if ack < state.n_acks {
+            let pdu = Pdu::BlAck {
+                has_fcs: q.flags / 2 % 2 == 1,
+                nr: state.scheduled_out_acks[ack].nr,
+            };
+            return put_unacknowledged(state, store, q, bytes, q.link, pdu, ack);
+        }
+    }
+    let none = state.n_acks;
+    put_unacknowledged(
+        state,
+        store,
+        q,
+        bytes,
+        0,
+        Pdu::BlUdata { has_fcs: false },
+        none,
+    )
+}
+
+/// A unitdata request.
+pub fn rx_tla_tlunitdata_req_bl(
+    state: State,
+    store: &mut [u8],
+    q: RequestCall,
+    bytes: &[u8],
+) -> Answer
+    requires { ⌜ inRange state ≡ true ⌝ }
+    requires { ⌜ length (now store) ≡ 32256 ⌝ }
+    requires { ⌜ requestRange q ≡ true ⌝ }
+    requires { ⌜ RequestInside q (now bytes) ⌝ }
+    ensures { λ r. ⌜ WithAnyOut r (bits (now (store .exit))) state (bits (now (store .entry))) (onUnitdata (requestOf q (now (bytes .entry))) state (bits (now (store .entry)))) ⌝ }
+{
+    if state.receipts[q.receipt as usize].taken {
+        return Answer::refused(6, state);
+    }
+    if 32 <= state.n_udata {
+        return Answer::refused(8, state);
+    }
+    let none = state.n_acks;
+    put_unacknowledged(
+        state,
+        store,
+        q,
+        bytes,
+        q.link,
+        Pdu::BlUdata { has_fcs: false },
+        none,
+    )
+}

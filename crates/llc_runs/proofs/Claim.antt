@@ -1,0 +1,308 @@
+-- What is claimed of every run of the entry point, from what is proved of `step`.
+use Prim.Native.Nat.{ℕ, _*_, _≤_}
+use native.Mathlib.Omega.{arith}
+use mathlib.Core.Path.{_≡_, _∙_, refl, sym, ap, ap₂, subst}
+use mathlib.Core.Bool.{true, false, not}
+use mathlib.Core.List.{List, [], _∷_, _++_, map}
+use mathlib.Core.Option.{some}
+use borrow.Author.Tests.{eqb-true}
+use lib.Dec.{eqb}
+use lib.ListN.{length}
+use Rattle.bits.proofs.Laws.{length-bits}
+use Rattle.questions.specs.Outcome.{Outcome, accepted, refused, number}
+use Rattle.llc_rule.specs.Lists.{keep}
+use Rattle.llc_rule.specs.Calls.{Request, parsed}
+use Rattle.llc_rule.specs.Records.{allBytes}
+use Rattle.llc_rule.specs.Link.{Link, new}
+use Rattle.llc_rule.specs.Step.{step}
+use Rattle.llc_rule.specs.Rule.{atFirst}
+use Rattle.llc_rule.specs.Runs as Rule
+use Rattle.llc_rule.specs.Runs.{Exchange}
+use Rattle.llc_rule.specs.Past.{Holders, nobody, belongsTo, whose, past, strays, holdersAfter, sight, heldBy, takenFrom}
+use Rattle.llc_rule.specs.Claim as OnLink
+use Rattle.llc_rule.specs.Claim.{ruleSights, ruleAfter, calls, unhindered, underWay}
+use Rattle.llc_rule.specs.Sound.{ofAddress}
+use Rattle.llc_rule.specs.Sendings.{requestOf, sendings, AtMostFour}
+use Rattle.llc_rule.proofs.Lists.{by-test, if-true, if-false, clash}
+use Rattle.llc_rule.proofs.Demand3.{demand3}
+use Rattle.llc_rule.proofs.Swap.{swap}
+use Rattle.llc_rule.proofs.UnderWay.{one-under-way}
+use Rattle.llc_rule.proofs.Sendings.{handed-down}
+use Rattle.llc_state.specs.Ranges.{inRange}
+use Rattle.llc_state.proofs.View.{new-in-range}
+use Rattle.llc_steps.specs.States.{Kept}
+use Rattle.llc_steps.specs.Answers.{delivered, laidOut}
+use Rattle.llc.specs.Entry.{lentRight, answered, callOf}
+use Rattle.llc_runs.specs.Runs.{Lent, Station, begin, left, recordsOf, given, exchange, run, after}
+use Rattle.llc_runs.specs.Claim.{linkAt, Shown, InRange, SeesItsOwnPast, SeesTheSame, whoseAfter, Claim}
+use Rattle.llc_runs.proofs.Ones.{past-heard, strays-heard, holders-heard, unhindered-heard, sendings-heard}
+use Rattle.llc_runs.proofs.Numbers.{not-one}
+use Rattle.llc_runs.proofs.Runs.{silent, Asked, asks, asks-not, fits, fitting, fitting-append, fitting-yes, fitting-no, follows, wrong-is, stuck, begin-right, begin-wrong, putTo, as-rule}
+
+-- The output of a call, and the length that it answers.
+shown-by :
+    (s : Station) (c : Lent) (o : Outcome Kept)
+    → (delivered (s .state) (s .store) (c .out) o .out ≡ laidOut (recordsOf o) (c .out))
+    × (delivered (s .state) (s .store) (c .out) o .answer .len ≡ length (allBytes (recordsOf o)))
+unfolding laidOut allBytes
+shown-by s c (accepted k) = (refl, refl)
+shown-by s c (refused n) = (refl, refl)
+
+shown : (s : Station) (c : Lent) → Shown s c
+unfolding callOf given
+shown s c =
+    let p = shown-by s c (answered (s .state) (s .store) (c .out) (c .call)) in record { out = p .0; len = p .1 }
+
+-- Number 1 tells of what is lent, if a call that is lent what is right is put to the link.
+one-is :
+    (s : Station) (c : Lent)
+    → (lentRight (s .store) (c .out) ≡ true → Asked s c)
+    → eqb (exchange s c .number) 1 ≡ not (lentRight (s .store) (c .out))
+one-is s c a =
+    by-test (lentRight (s .store) (c .out))
+    (λ e. ap (λ (x : Exchange). eqb (x .number) 1) (a e .asked) ∙ not-one (linkAt s) (c .call) ∙ ap not (sym e))
+    (λ e. ap (λ (k : ℕ). eqb k 1) (asks-not s c e .one) ∙ ap not (sym e))
+
+begin-in-range : (store : List ℕ) → inRange (begin store .state) ≡ true
+unfolding begin
+begin-in-range store = new-in-range
+
+begin-long : (store : List ℕ) → length (begin store .store) ≡ 8 * length store
+unfolding begin
+begin-long store = length-bits store
+
+in-range : (store : List ℕ) (cs : List Lent) → InRange store cs
+in-range store cs =
+    by-test (eqb (length store) 32256)
+    (λ right.
+    let ok = follows (begin store) cs (begin-right store right) .sane in
+    record {
+      state = ok .range;
+      number = λ c. one-is (after (begin store) cs) c (asks (after (begin store) cs) c ok);
+      length = ok .long ∙ ap (λ (k : ℕ). 8 * k) (sym (eqb-true (length store) 32256 right));
+    })
+    (λ wrong.
+    let w = begin-wrong store wrong in
+    let n = stuck (begin store) cs w .same in
+    record {
+      state = ap (λ (t : Station). inRange (t .state)) n ∙ begin-in-range store;
+      number =
+          λ c.
+          one-is (after (begin store) cs) c
+          (λ e. clash e (ap (λ (t : Station). lentRight (t .store) (c .out)) n ∙ wrong-is (begin store) c w));
+      length = ap (λ (t : Station). length (t .store)) n ∙ begin-long store;
+    })
+
+-- A run, read as the run of `step` on the calls that are put to the link.
+module _ (store : List ℕ) (cs : List Lent) where
+  abbrev onLink : List Exchange
+  onLink = Rule.run new (putTo store cs)
+
+  past-is : (a : ℕ) (h : Holders) → past a h (run (begin store) cs) ≡ past a h onLink
+  past-is a h = past-heard a h (run (begin store) cs) (silent (begin store) cs) ∙ ap (past a h) (as-rule store cs .heard)
+
+  strays-are : (a : ℕ) (h : Holders) → strays a h (run (begin store) cs) ≡ strays a h onLink
+  strays-are a h = strays-heard a h (run (begin store) cs) (silent (begin store) cs) ∙ ap (strays a h) (as-rule store cs .heard)
+
+  holders-are : holdersAfter nobody (run (begin store) cs) ≡ holdersAfter nobody onLink
+  holders-are =
+      holders-heard nobody (run (begin store) cs) (silent (begin store) cs) ∙ ap (holdersAfter nobody) (as-rule store cs .heard)
+
+  pub unhindered-is : unhindered (run (begin store) cs) ≡ unhindered onLink
+  unhindered-is = unhindered-heard (run (begin store) cs) (silent (begin store) cs) ∙ ap unhindered (as-rule store cs .heard)
+
+  held-are :
+      (a : ℕ)
+      → heldBy a (holdersAfter nobody (run (begin store) cs)) 0 (linkAt (after (begin store) cs) .receipts)
+      ≡ heldBy a (holdersAfter nobody onLink) 0 (Rule.after new (putTo store cs) .receipts)
+  held-are a = ap₂ (λ (h : Holders) (l : Link). heldBy a h 0 (l .receipts)) holders-are (as-rule store cs .link)
+
+-- Demand 3.
+sees-own :
+    (store : List ℕ) (cs : List Lent) → unhindered (run (begin store) cs) ≡ true → (a : ℕ) → SeesItsOwnPast store cs a
+sees-own store cs u a =
+    let d = demand3 .each (putTo store cs) (sym (unhindered-is store cs) ∙ u) a in
+    let p = past-is store cs a nobody in
+    record {
+      seen = ap (map (sight a)) p ∙ d .seen ∙ ap (λ (es : List Exchange). ruleSights atFirst (calls es)) (sym p);
+      receipts =
+          held-are store cs a
+          ∙ d .receipts
+          ∙ ap (λ (es : List Exchange). takenFrom 0 (ruleAfter atFirst (calls es) .receipts)) (sym p);
+      alone = strays-are store cs a nobody ∙ d .alone;
+    }
+
+-- Calls that change places: what is seen of the calls that are put to the link is seen of the run.
+sees-same :
+    (a : ℕ) (store : List ℕ) (cs ds : List Lent)
+    → OnLink.SeesTheSame a (putTo store cs) (putTo store ds)
+    → SeesTheSame a store cs ds
+sees-same a store cs ds s =
+    let p = past-is store cs a nobody in
+    let q = past-is store ds a nobody in
+    record {
+      sameCalls = ap calls p ∙ s .sameCalls ∙ ap calls (sym q);
+      sameSights = ap (map (sight a)) p ∙ s .sameSights ∙ ap (map (sight a)) (sym q);
+      sameReceipts = held-are store cs a ∙ s .sameReceipts ∙ sym (held-are store ds a);
+    }
+
+sees-itself : (a : ℕ) (cs : List (List ℕ)) → OnLink.SeesTheSame a cs cs
+sees-itself a cs = record { sameCalls = refl; sameSights = refl; sameReceipts = refl }
+
+-- The same calls are put to the link.
+sees-as-put : (a : ℕ) (store : List ℕ) (cs ds : List Lent) → putTo store cs ≡ putTo store ds → SeesTheSame a store cs ds
+sees-as-put a store cs ds e =
+    sees-same a store cs ds (subst (OnLink.SeesTheSame a (putTo store cs)) e (sees-itself a (putTo store cs)))
+
+-- Two calls of which one is not put to the link, in either order.
+one-put : (c d : Lent) (later : List Lent) → fits c ≡ false → fitting (c ∷ d ∷ later) ≡ fitting (d ∷ c ∷ later)
+one-put c d later f =
+    fitting-no c (d ∷ later) f
+    ∙ by-test (fits d)
+    (λ g.
+    fitting-yes d later g
+    ∙ ap (λ (x : List (List ℕ)). d .call ∷ x) (sym (fitting-no c later f))
+    ∙ sym (fitting-yes d (c ∷ later) g))
+    (λ g. fitting-no d later g ∙ sym (fitting-no c later f) ∙ sym (fitting-no d (c ∷ later) g))
+
+two-put :
+    (c d : Lent) (later : List Lent)
+    → fits c ≡ true
+    → fits d ≡ true
+    → fitting (c ∷ d ∷ later) ≡ c .call ∷ d .call ∷ fitting later
+two-put c d later f g = fitting-yes c (d ∷ later) f ∙ ap (λ (x : List (List ℕ)). c .call ∷ x) (fitting-yes d later g)
+
+-- Calls before others, on a store of the right length.
+put-right :
+    (store : List ℕ) (before cs : List Lent) (ds : List (List ℕ))
+    → eqb (length store) 32256 ≡ true
+    → fitting cs ≡ ds
+    → putTo store (before ++ cs) ≡ putTo store before ++ ds
+put-right store before cs ds right e =
+    if-true (fitting (before ++ cs)) [] right
+    ∙ fitting-append before cs
+    ∙ ap₂ (λ (x y : List (List ℕ)). x ++ y) (sym (if-true (fitting before) [] right)) e
+
+put-wrong : (store : List ℕ) (cs ds : List Lent) → eqb (length store) 32256 ≡ false → putTo store cs ≡ putTo store ds
+put-wrong store cs ds wrong = if-false (fitting cs) [] wrong ∙ sym (if-false (fitting ds) [] wrong)
+
+put-same :
+    (store : List ℕ) (before cs ds : List Lent)
+    → eqb (length store) 32256 ≡ true
+    → fitting cs ≡ fitting ds
+    → putTo store (before ++ cs) ≡ putTo store (before ++ ds)
+put-same store before cs ds right e =
+    put-right store before cs (fitting ds) right e ∙ sym (put-right store before ds (fitting ds) right refl)
+
+swapped :
+    (store : List ℕ) (before : List Lent) (c d : Lent) (later : List Lent) (s t : ℕ)
+    → whoseAfter store before c ≡ belongsTo s
+    → whoseAfter store (before ++ (c ∷ [])) d ≡ belongsTo t
+    → eqb s t ≡ false
+    → unhindered (run (begin store) (before ++ (c ∷ d ∷ later))) ≡ true
+    → unhindered (run (begin store) (before ++ (d ∷ c ∷ later))) ≡ true
+    → (a : ℕ)
+    → SeesTheSame a store (before ++ (c ∷ d ∷ later)) (before ++ (d ∷ c ∷ later))
+unfolding keep
+swapped store before c d later s t c-is d-is differ one other a =
+    let cs : List Lent = before ++ (c ∷ d ∷ later) in
+    let ds : List Lent = before ++ (d ∷ c ∷ later) in
+    by-test (eqb (length store) 32256)
+    (λ right.
+    by-test (fits c)
+    (λ f.
+    by-test (fits d)
+    (λ g.
+    let put : List (List ℕ) = putTo store before in
+    let p = put-right store before (c ∷ d ∷ later) (c .call ∷ d .call ∷ fitting later) right (two-put c d later f g) in
+    let q = put-right store before (d ∷ c ∷ later) (d .call ∷ c .call ∷ fitting later) right (two-put d c later g f) in
+    let with-c = put-right store before (c ∷ []) (c .call ∷ []) right (fitting-yes c [] f) in
+    sees-same a store cs ds
+    (subst (λ (x : List (List ℕ)). OnLink.SeesTheSame a x (putTo store ds)) (sym p)
+    (subst (OnLink.SeesTheSame a (put ++ (c .call ∷ d .call ∷ fitting later))) (sym q)
+    (swap .each put (c .call) (d .call) (fitting later) s t
+    (ap (λ (h : Holders). whose h (c .call)) (sym (holders-are store before)) ∙ c-is)
+    (ap (λ (x : List (List ℕ)). OnLink.whoseAfter x (d .call)) (sym with-c)
+    ∙ ap (λ (h : Holders). whose h (d .call)) (sym (holders-are store (before ++ (c ∷ []))))
+    ∙ d-is)
+    differ
+    (ap (λ (x : List (List ℕ)). unhindered (Rule.run new x)) (sym p) ∙ sym (unhindered-is store cs) ∙ one)
+    (ap (λ (x : List (List ℕ)). unhindered (Rule.run new x)) (sym q) ∙ sym (unhindered-is store ds) ∙ other)
+    a))))
+    (λ g. sees-as-put a store cs ds (put-same store before (c ∷ d ∷ later) (d ∷ c ∷ later) right (sym (one-put d c later g)))))
+    (λ f. sees-as-put a store cs ds (put-same store before (c ∷ d ∷ later) (d ∷ c ∷ later) right (one-put c d later f))))
+    (λ wrong. sees-as-put a store cs ds (put-wrong store cs ds wrong))
+
+-- An address has at most one acknowledged message under way.
+one-by-rule :
+    (store : List ℕ) (cs : List Lent)
+    → unhindered (run (begin store) cs) ≡ true
+    → (a : ℕ)
+    → underWay (ruleAfter atFirst (calls (past a nobody (run (begin store) cs))) .acknowledged) ≤ 1
+one-by-rule store cs u a =
+    subst (λ (es : List Exchange). underWay (ruleAfter atFirst (calls es) .acknowledged) ≤ 1) (sym (past-is store cs a nobody))
+    (one-under-way .byRule (putTo store cs) (sym (unhindered-is store cs) ∙ u) a)
+
+one-in-state :
+    (store : List ℕ) (cs : List Lent) (a : ℕ) → underWay (ofAddress a (linkAt (after (begin store) cs) .acknowledged)) ≤ 1
+one-in-state store cs a =
+    subst (λ (l : Link). underWay (ofAddress a (l .acknowledged)) ≤ 1) (sym (as-rule store cs .link))
+    (one-under-way .onLink (putTo store cs) a)
+
+-- A request that is accepted was lent what is right.
+sendings-are :
+    (i : ℕ) (s : Station) (c : Lent) (later : List Lent)
+    → Asked s c
+    → sendings i (run (left s c) later)
+    ≡ sendings i (Rule.run (Rule.left (linkAt s) (step (linkAt s) (c .call))) (fitting later))
+sendings-are i s c later a =
+    sendings-heard i (run (left s c) later) (silent (left s c) later)
+    ∙ ap (sendings i)
+    (follows (left s c) later (a .sane) .heard ∙ ap (λ (l : Link). Rule.run l (fitting later)) (a .leaves))
+
+four-right :
+    (store : List ℕ) (before : List Lent) (c : Lent) (r : Request) (later : List Lent)
+    → Asked (after (begin store) before) c
+    → exchange (after (begin store) before) c .number ≡ 0
+    → requestOf (parsed (c .call)) ≡ some r
+    → AtMostFour r (sendings (r .receipt) (run (left (after (begin store) before) c) later))
+four-right store before c r later a n e =
+    let s : Station = after (begin store) before in
+    let l = as-rule store before .link in
+    subst (AtMostFour r)
+    (sym
+    (sendings-are (r .receipt) s c later a
+    ∙ ap (λ (x : Link). sendings (r .receipt) (Rule.run (Rule.left x (step x (c .call))) (fitting later))) l))
+    (handed-down .each (putTo store before) (c .call) r (fitting later)
+    (ap (λ (x : Link). number (step x (c .call))) (sym l) ∙ ap (λ (x : Exchange). x .number) (sym (a .asked)) ∙ n)
+    e)
+
+four :
+    (store : List ℕ) (before : List Lent) (c : Lent) (r : Request) (later : List Lent)
+    → exchange (after (begin store) before) c .number ≡ 0
+    → requestOf (parsed (c .call)) ≡ some r
+    → AtMostFour r (sendings (r .receipt) (run (left (after (begin store) before) c) later))
+four store before c r later n e =
+    let s : Station = after (begin store) before in
+    let none : lentRight (s .store) (c .out) ≡ false → AtMostFour r (sendings (r .receipt) (run (left s c) later)) =
+    λ w. absurd (omega (arith, n, asks-not s c w .one)) in
+    by-test (eqb (length store) 32256)
+    (λ right.
+    let ok = follows (begin store) before (begin-right store right) .sane in
+    by-test (lentRight (s .store) (c .out)) (λ w. four-right store before c r later (asks s c ok w) n e) none)
+    (λ wrong.
+    let w = begin-wrong store wrong in
+    none
+    (ap (λ (t : Station). lentRight (t .store) (c .out)) (stuck (begin store) before w .same) ∙ wrong-is (begin store) c w))
+
+pub claim : Claim
+claim =
+    record {
+      shown = shown;
+      inRange = in-range;
+      demand3 = sees-own;
+      swap = swapped;
+      oneUnderWay = one-by-rule;
+      oneInState = one-in-state;
+      four = four;
+    }

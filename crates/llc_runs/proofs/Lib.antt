@@ -1,0 +1,5 @@
+pub mod Ones
+pub mod Numbers
+pub mod Runs
+pub mod Claim
+pub mod Instance

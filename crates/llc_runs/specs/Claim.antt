@@ -1,0 +1,100 @@
+-- What is claimed of every run of the entry point: any store, any list of calls, each a list of bytes and an output of any
+-- length and content.
+use Prim.Native.Nat.{ℕ, _*_, _≤_}
+use mathlib.Core.Path.{_≡_}
+use mathlib.Core.Bool.{true, false, not}
+use mathlib.Core.List.{List, [], _∷_, _++_, map}
+use mathlib.Core.Option.{some}
+use lib.Dec.{eqb}
+use lib.ListN.{length}
+use Rattle.llc_rule.specs.Calls.{Request, parsed}
+use Rattle.llc_rule.specs.Records.{allBytes}
+use Rattle.llc_rule.specs.Link.{Link}
+use Rattle.llc_rule.specs.Rule.{atFirst}
+use Rattle.llc_rule.specs.Past.{nobody, Whose, belongsTo, whose, past, strays, holdersAfter, sight, heldBy, takenFrom}
+use Rattle.llc_rule.specs.Claim.{ruleSights, ruleAfter, calls, unhindered, underWay}
+use Rattle.llc_rule.specs.Sound.{ofAddress}
+use Rattle.llc_rule.specs.Sendings.{requestOf, sendings, AtMostFour}
+use Rattle.llc_state.specs.Ranges.{inRange}
+use Rattle.llc_state.specs.View.{linkIn}
+use Rattle.llc_steps.specs.Answers.{laidOut}
+use Rattle.llc.specs.Entry.{lentRight, callOf}
+use Rattle.llc_runs.specs.Runs.{Lent, Station, begin, left, given, exchange, run, after}
+
+-- The link that state and store hold.
+abbrev pub linkAt : Station → Link
+linkAt s = linkIn (s .state) (s .store)
+
+-- The output of a call holds the records that it gave, from the front on, and then the bytes that it held before; and the
+-- answer tells how many bytes are records.
+pub record Shown (s : Station) (c : Lent) : Type 0 where
+  pub out : callOf (s .state) (s .store) (c .out) (c .call) .out ≡ laidOut (given s c) (c .out)
+  pub len : callOf (s .state) (s .store) (c .out) (c .call) .answer .len ≡ length (allBytes (given s c))
+
+-- "The new state and every state that a call of a run leaves have all counts and values within range, so that in a run number 1
+-- tells only of a lent length that is wrong."
+pub record InRange (store : List ℕ) (cs : List Lent) : Type 0 where
+  pub state : inRange (after (begin store) cs .state) ≡ true
+  pub number : (c : Lent) → eqb (exchange (after (begin store) cs) c .number) 1 ≡ not (lentRight (after (begin store) cs .store) (c .out))
+  -- A store is right or wrong for a whole run.
+  pub length : length (after (begin store) cs .store) ≡ 8 * length store
+
+-- Demand 3, of an address a.
+pub record SeesItsOwnPast (store : List ℕ) (cs : List Lent) (a : ℕ) : Type 0 where
+  -- Each call of its past gave the number and the records that the one-address rule gives.
+  pub seen :
+      map (sight a) (past a nobody (run (begin store) cs)) ≡ ruleSights atFirst (calls (past a nobody (run (begin store) cs)))
+  -- It holds the receipts that the rule keeps, with their marks.
+  pub receipts :
+      heldBy a (holdersAfter nobody (run (begin store) cs)) 0 (linkAt (after (begin store) cs) .receipts)
+      ≡ takenFrom 0 (ruleAfter atFirst (calls (past a nobody (run (begin store) cs))) .receipts)
+  -- "No other call gives a record with its SSI."
+  pub alone : strays a nobody (run (begin store) cs) ≡ []
+
+-- What an address a sees of one list of calls, it sees of another.
+pub record SeesTheSame (a : ℕ) (store : List ℕ) (cs ds : List Lent) : Type 0 where
+  pub sameCalls : calls (past a nobody (run (begin store) cs)) ≡ calls (past a nobody (run (begin store) ds))
+  pub sameSights : map (sight a) (past a nobody (run (begin store) cs)) ≡ map (sight a) (past a nobody (run (begin store) ds))
+  pub sameReceipts :
+      heldBy a (holdersAfter nobody (run (begin store) cs)) 0 (linkAt (after (begin store) cs) .receipts)
+      ≡ heldBy a (holdersAfter nobody (run (begin store) ds)) 0 (linkAt (after (begin store) ds) .receipts)
+
+-- Whose a call is after other calls.
+abbrev pub whoseAfter : List ℕ → List Lent → Lent → Whose
+whoseAfter store cs c = whose (holdersAfter nobody (run (begin store) cs)) (c .call)
+
+pub record Claim : Type 0 where
+  pub shown : (s : Station) (c : Lent) → Shown s c
+  pub inRange : (store : List ℕ) (cs : List Lent) → InRange store cs
+  -- Demand 3: for every list of calls, if none was refused for a taken receipt or a full table (6, 7, 8, 13), each address has
+  -- seen exactly what the one-address rule gives on its past alone.
+  pub demand3 :
+      (store : List ℕ) (cs : List Lent)
+      → unhindered (run (begin store) cs) ≡ true
+      → (a : ℕ)
+      → SeesItsOwnPast store cs a
+  -- "So two neighbouring calls about different addresses, neither of them a tick or a start, may change places, if that makes no
+  -- such refusal, and no address sees a difference."
+  pub swap :
+      (store : List ℕ) (before : List Lent) (c d : Lent) (later : List Lent) (s t : ℕ)
+      → whoseAfter store before c ≡ belongsTo s
+      → whoseAfter store (before ++ (c ∷ [])) d ≡ belongsTo t
+      → eqb s t ≡ false
+      → unhindered (run (begin store) (before ++ (c ∷ d ∷ later))) ≡ true
+      → unhindered (run (begin store) (before ++ (d ∷ c ∷ later))) ≡ true
+      → (a : ℕ)
+      → SeesTheSame a store (before ++ (c ∷ d ∷ later)) (before ++ (d ∷ c ∷ later))
+  -- "By that rule an address has at most one acknowledged message under way": by the rule on its past, and in the state.
+  pub oneUnderWay :
+      (store : List ℕ) (cs : List Lent)
+      → unhindered (run (begin store) cs) ≡ true
+      → (a : ℕ)
+      → underWay (ruleAfter atFirst (calls (past a nobody (run (begin store) cs))) .acknowledged) ≤ 1
+  pub oneInState :
+      (store : List ℕ) (cs : List Lent) (a : ℕ) → underWay (ofAddress a (linkAt (after (begin store) cs) .acknowledged)) ≤ 1
+  -- Of every request that is accepted, after any calls and before any calls, at most four sendings, all the same.
+  pub four :
+      (store : List ℕ) (before : List Lent) (c : Lent) (r : Request) (later : List Lent)
+      → exchange (after (begin store) before) c .number ≡ 0
+      → requestOf (parsed (c .call)) ≡ some r
+      → AtMostFour r (sendings (r .receipt) (run (left (after (begin store) before) c) later))

@@ -1,0 +1,1 @@
+// Runs of the basic link: definitions and theorems alone.

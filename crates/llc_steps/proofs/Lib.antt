@@ -1,0 +1,14 @@
+pub mod Relaid
+pub mod TickEnd
+pub mod Calls
+pub mod Places
+pub mod Requests
+pub mod Steps
+pub mod Ready
+pub mod Laid
+pub mod Updates
+pub mod SaneRelaid
+pub mod SaneTickEnd
+pub mod SaneRequests
+pub mod SaneCalls
+pub mod Sane

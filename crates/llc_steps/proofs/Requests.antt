@@ -1,0 +1,342 @@
+-- A request on the entries is the request on the link that they hold.
+use Prim.Native.Nat.{ℕ, _+_, _-_, _≤_, _<_}
+use native.Mathlib.Omega.{arith}
+use mathlib.Core.Path.{_≡_, _∙_, refl, sym, ap, ap₂}
+use mathlib.Core.Bool.{Bool, true, false, cond, not, _&&_, _||_}
+use mathlib.Core.List.{List, [], _∷_, _++_, map}
+use mathlib.Core.Option.{none, some}
+use borrow.Author.Tests.{ltb-true}
+use lib.Dec.{eqb, ltb}
+use lib.ListN.{length, set, take, replicate, length-map, length-append}
+use lib.Seq.{take-append-seam}
+use Rattle.bits.specs.Bits.{splice}
+use Rattle.questions.specs.Outcome.{Outcome, accepted, ask}
+use Rattle.tx_receipt.specs.declared.TxReceipt.{TxReceipt}
+use Rattle.llc_pdus.specs.Headers.{header}
+use Rattle.llc_pdus.specs.declared.Pdu.{Pdu}
+use Rattle.llc_pdus.specs.declared.Pdu.the-variants.{BlAdata, BlData, BlUdata, BlAck}
+use Rattle.llc_rule.specs.Lists.{Found, nothing, first, others}
+use Rattle.llc_rule.specs.Calls.{Request}
+use Rattle.llc_rule.specs.Ranges.{steals, wantsFcs}
+use Rattle.llc_rule.specs.Records.{Sent}
+use Rattle.llc_rule.specs.Messages as Rule
+use Rattle.llc_rule.specs.Messages.{Message, Due, sentOf}
+use Rattle.llc_rule.specs.Done.{done}
+use Rattle.llc_rule.specs.Link as Link
+use Rattle.llc_rule.specs.Step as Step
+use Rattle.llc_rule.specs.Step.{onAcknowledgedPath}
+use Rattle.llc_rule.specs.Sound.{All}
+use Rattle.llc_rule.proofs.Lists.{by-test, ap-cond, all-map}
+use Rattle.llc_state.specs.View.{placeBit, frameIn, sentIn, messageIn, dueIn, placeIn, rowIn, linkIn}
+use Rattle.llc_state.specs.declared.Entry.{Entry}
+use Rattle.llc_state.specs.declared.ScheduledOutAck.{ScheduledOutAck}
+use Rattle.llc_state.specs.declared.ReceiptPlace.{ReceiptPlace}
+use Rattle.llc_state.specs.declared.LinkSendSeq.{LinkSendSeq}
+use Rattle.llc_state.specs.declared.State.{State}
+use Rattle.llc_steps.specs.States.{messagesOf, udataOf, acksOf, rowsOf}
+use Rattle.llc_steps.specs.Places.{freePlace}
+use Rattle.llc_steps.specs.Calls.{entryOf, carrierFor, ackFor, seqOf, withSeq, dataPdu, withAcknowledged, withUnacknowledged, withStolen, receiptFree, rowFor, onData, onUnitdata}
+use Rattle.llc_state.specs.Receipts.{pendingPlace, placeOf}
+use Rattle.llc_state.proofs.Maps.{map-append, map-set, mapFound, find-map, any-map, others-map}
+use Rattle.llc_steps.specs.Holds.{keptIn, Ready}
+use Rattle.llc_steps.proofs.Relaid.{relaid-in}
+use Rattle.llc_steps.proofs.Places.{free-place, part-there, frame-elsewhere}
+use Rattle.llc_state.proofs.Places.{place-in}
+use Rattle.llc_steps.proofs.Calls.{kept-ask}
+
+-- Rows.
+seq-in : (a : ℕ) (rs : List LinkSendSeq) → Link.bitOf a (map rowIn rs) ≡ seqOf a rs
+unfolding Link.bitOf seqOf rowIn
+seq-in a [] = refl
+seq-in a (r ∷ rs) = ap (cond (eqb (r .ssi) a) (r .vs)) (seq-in a rs)
+
+with-seq-in : (a : ℕ) (b : Bool) (rs : List LinkSendSeq) → map rowIn (withSeq a b rs) ≡ Link.withBit a b (map rowIn rs)
+unfolding Link.withBit withSeq rowIn
+with-seq-in a b [] = refl
+with-seq-in a b (r ∷ rs) =
+    ap-cond (map rowIn) (eqb (r .ssi) a) (record { ssi = a; vs = b } ∷ rs) (r ∷ withSeq a b rs)
+    ∙ ap (λ (t : List Link.Row). cond (eqb (r .ssi) a) (record { ssi = a; bit = b } ∷ map rowIn rs) (rowIn r ∷ t)) (with-seq-in a b rs)
+
+-- Receipts.
+free-by : (b : Bool) (r : TxReceipt) → not b ≡ Rule.isFree (placeIn (record { taken = b; receipt = r }))
+unfolding placeIn
+free-by true r = refl
+free-by false r = refl
+
+pending-in : (b : Bool) → placeIn (pendingPlace b) ≡ Rule.pending b
+unfolding placeIn
+pending-in b = refl
+
+-- What stays as it was.
+map-same : {A B : Type 0} (g k : A → B) (l : List A) → All (λ (x : A). g x ≡ k x) l → map g l ≡ map k l
+map-same g k [] a = refl
+map-same g k (x ∷ l) a = ap₂ (λ (y : _) (t : List _). y ∷ t) (a .0) (map-same g k l (a .1))
+
+-- A new message, with its frame where it takes its place.
+record Placed (s : State) (store : List ℕ) (pdu : List ℕ) (after : List ℕ) : Type 0 where
+  there : (len : ℕ) → len ≡ length pdu → Rattle.bits.specs.Bits.part after (placeBit (freePlace s)) len ≡ pdu
+  messages : All (λ (e : Entry). frameIn after e ≡ frameIn store e) (messagesOf s)
+  udata : All (λ (e : Entry). frameIn after e ≡ frameIn store e) (udataOf s)
+
+module _ (r : Request) (s : State) (store : List ℕ) (short : length (r .block) ≤ 64) where
+  new-sent :
+      (c k : ℕ) (p : Pdu) (ns : Bool) (after : List ℕ)
+      → Placed s store (header p ++ r .sdu) after
+      → sentIn after (entryOf r c k (freePlace s) (length (header p ++ r .sdu)) ns) ≡ sentOf r c k p
+  unfolding sentIn entryOf sentOf frameIn
+  new-sent c k p ns after ok =
+      λ i.
+      record {
+        ssi = r .ssi;
+        type = r .type;
+        carrier = c;
+        link = k;
+        endpoint = r .endpoint;
+        handle = r .handle;
+        steal = steals r;
+        mask = cond (Rattle.llc_rule.specs.Ranges.hasMask r) (some (r .mask)) none;
+        receipt = r .receipt;
+        block = take-append-seam (r .block) (replicate (64 - length (r .block)) 0) i;
+        pdu = ok .there (length (header p ++ r .sdu)) refl i;
+      }
+
+  ack-for-in : Step.dueFor r (linkIn s store) ≡ mapFound dueIn (ackFor r s)
+  unfolding Step.dueFor ackFor linkIn dueIn
+  ack-for-in = find-map dueIn (λ (d : Due). eqb (d .ssi) (r .ssi) && eqb (d .carrier) (carrierFor r s)) (acksOf s)
+
+  data-pdu-in : (ns : Bool) (x : Found ScheduledOutAck) → Step.dataPdu r ns (mapFound dueIn x) ≡ dataPdu r ns x
+  unfolding dueIn
+  data-pdu-in ns nothing = refl
+  data-pdu-in ns (first d ds) = refl
+
+  sent-same : (after : List ℕ) (e : Entry) → frameIn after e ≡ frameIn store e → sentIn after e ≡ sentIn store e
+  unfolding sentIn
+  sent-same after e f =
+      λ i.
+      record {
+        ssi = e .ssi;
+        type = e .«ssi_type»;
+        carrier = e .«carrier_num»;
+        link = e .«link_id»;
+        endpoint = e .«endpoint_id»;
+        handle = e .«req_handle»;
+        steal = e .«stealing_permission»;
+        mask = cond (e .«has_mask») (some (e .mask)) none;
+        receipt = e .receipt;
+        block = take (e .«block_len») (e .block);
+        pdu = f i;
+      }
+
+  message-same : (after : List ℕ) (e : Entry) → frameIn after e ≡ frameIn store e → messageIn after e ≡ messageIn store e
+  unfolding messageIn
+  message-same after e f =
+      λ i.
+      record {
+        sent = sent-same after e f i;
+        ns = e .ns;
+        submitted = e .«submitted_to_umac»;
+        done = cond (e .«has_umac_done») (some (e .«t_umac_done»)) none;
+        resends = e .«retransmit_count»;
+      }
+
+  messages-same : (pdu after : List ℕ) → Placed s store pdu after → map (messageIn after) (messagesOf s) ≡ map (messageIn store) (messagesOf s)
+  messages-same pdu after ok =
+      map-same (messageIn after) (messageIn store) (messagesOf s)
+      (all-map (λ (e : Entry). frameIn after e ≡ frameIn store e) (λ (e : Entry). messageIn after e ≡ messageIn store e) (messagesOf s)
+      (message-same after) (ok .messages))
+
+  udata-same : (pdu after : List ℕ) → Placed s store pdu after → map (sentIn after) (udataOf s) ≡ map (sentIn store) (udataOf s)
+  udata-same pdu after ok =
+      map-same (sentIn after) (sentIn store) (udataOf s)
+      (all-map (λ (e : Entry). frameIn after e ≡ frameIn store e) (λ (e : Entry). sentIn after e ≡ sentIn store e) (udataOf s)
+      (sent-same after) (ok .udata))
+
+  new-message :
+      (c k : ℕ) (p : Pdu) (ns : Bool) (after : List ℕ)
+      → Placed s store (header p ++ r .sdu) after
+      → messageIn after (entryOf r c k (freePlace s) (length (header p ++ r .sdu)) ns) ≡ Rule.waiting (sentOf r c k p) ns
+  unfolding messageIn entryOf
+  new-message c k p ns after ok =
+      λ i. record { sent = new-sent c k p ns after ok i; ns = ns; submitted = false; done = none; resends = 0 }
+
+  with-acknowledged-in :
+      Placed s store (header (dataPdu r (seqOf (r .ssi) (rowsOf s)) (ackFor r s)) ++ r .sdu) (withAcknowledged r s store .store)
+      → linkIn (withAcknowledged r s store .state) (withAcknowledged r s store .store) ≡ Step.withAcknowledged r (linkIn s store)
+  unfolding withAcknowledged Step.withAcknowledged linkIn
+  with-acknowledged-in ok =
+      let ns : Bool = seqOf (r .ssi) (rowsOf s) in
+      let c : ℕ = carrierFor r s in
+      let p : Pdu = dataPdu r ns (ackFor r s) in
+      let pdu : List ℕ = header p ++ r .sdu in
+      let after : List ℕ = splice store (placeBit (freePlace s)) pdu in
+      let e : Entry = entryOf r c 0 (freePlace s) (length pdu) ns in
+      let bit : ns ≡ Link.bitOf (r .ssi) (map rowIn (rowsOf s)) = sym (seq-in (r .ssi) (rowsOf s)) in
+      let pdus : p ≡ Step.dataPdu r (Link.bitOf (r .ssi) (map rowIn (rowsOf s))) (Step.dueFor r (linkIn s store)) =
+      sym (data-pdu-in ns (ackFor r s)) ∙ ap₂ (Step.dataPdu r) bit (sym ack-for-in)
+      in
+      let messages =
+      map-append (messageIn after) (messagesOf s) (e ∷ [])
+      ∙ ap₂ (λ (x : List Message) (m : Message). x ++ (m ∷ [])) (messages-same pdu after ok) (new-message c 0 p ns after ok)
+      in
+      let dues =
+      sym (others-map dueIn (ackFor r s) (acksOf s)) ∙ ap (λ (x : Found Due). others x (map dueIn (acksOf s))) (sym ack-for-in)
+      in
+      let places =
+      map-set placeIn (s .receipts) (r .receipt) (pendingPlace true) ∙ ap (set (map placeIn (s .receipts)) (r .receipt)) (pending-in true)
+      in
+      let rows = with-seq-in (r .ssi) (not ns) (rowsOf s) in
+      relaid-in s after (messagesOf s ++ (e ∷ [])) (udataOf s) (others (ackFor r s) (acksOf s)) (set (s .receipts) (r .receipt) (pendingPlace true)) (withSeq (r .ssi) (not ns) (rowsOf s))
+      ∙ (λ i.
+      Link.withQueues (linkIn s store) (messages i) (udata-same pdu after ok i) (dues i) (places i) (rows i))
+      ∙ (λ i.
+      Link.withQueues (linkIn s store)
+      (map (messageIn store) (messagesOf s) ++ (Rule.waiting (sentOf r c 0 (pdus i)) (bit i) ∷ []))
+      (map (sentIn store) (udataOf s))
+      (others (Step.dueFor r (linkIn s store)) (map dueIn (acksOf s)))
+      (set (map placeIn (s .receipts)) (r .receipt) (Rule.pending true))
+      (Link.withBit (r .ssi) (not (bit i)) (map rowIn (rowsOf s))))
+
+  with-unacknowledged-in :
+      (k : ℕ) (p : Pdu) (ds : List ScheduledOutAck)
+      → Placed s store (header p ++ r .sdu) (withUnacknowledged r k p ds s store .store)
+      → linkIn (withUnacknowledged r k p ds s store .state) (withUnacknowledged r k p ds s store .store)
+      ≡ Step.withUnacknowledged r k p (map dueIn ds) (linkIn s store)
+  unfolding withUnacknowledged Step.withUnacknowledged linkIn
+  with-unacknowledged-in k p ds ok =
+      let c : ℕ = carrierFor r s in
+      let pdu : List ℕ = header p ++ r .sdu in
+      let after : List ℕ = splice store (placeBit (freePlace s)) pdu in
+      let e : Entry = entryOf r c k (freePlace s) (length pdu) false in
+      let sents =
+      map-append (sentIn after) (udataOf s) (e ∷ [])
+      ∙ ap₂ (λ (x : List Sent) (m : Sent). x ++ (m ∷ [])) (udata-same pdu after ok) (new-sent c k p false after ok)
+      in
+      let places =
+      map-set placeIn (s .receipts) (r .receipt) (pendingPlace false)
+      ∙ ap (set (map placeIn (s .receipts)) (r .receipt)) (pending-in false)
+      in
+      relaid-in s after (messagesOf s) (udataOf s ++ (e ∷ [])) ds (set (s .receipts) (r .receipt) (pendingPlace false)) (rowsOf s)
+      ∙ (λ i.
+      Link.withQueues (linkIn s store) (messages-same pdu after ok i) (sents i) (map dueIn ds) (places i) (map rowIn (rowsOf s)))
+
+all-both : {A : Type 0} (P Q R : A → Type 0) (l : List A) → ((x : A) → P x → Q x → R x) → All P l → All Q l → All R l
+all-both P Q R [] f p q = tt
+all-both P Q R (x ∷ l) f p q = (f x (p .0) (q .0), all-both P Q R l f (p .1) (q .1))
+
+placed :
+    (s : State) (store pdu : List ℕ)
+    → Ready s store
+    → s .«n_messages» + s .«n_udata» ≤ 95
+    → length pdu ≤ 2688
+    → Placed s store pdu (splice store (placeBit (freePlace s)) pdu)
+placed s store pdu ok few short =
+    let p : ℕ = freePlace s in
+    let free = free-place s (omega (arith, ok .counted .messages, ok .counted .udata)) in
+    let P : Entry → Type 0 = λ e. (e .place < 96) × (e .len ≤ 2601) in
+    let Q : Entry → Type 0 = λ e. eqb (e .place) p ≡ false in
+    let same : (e : Entry) → P e → Q e → frameIn (splice store (placeBit p) pdu) e ≡ frameIn store e =
+    λ e in-range other. frame-elsewhere store p pdu e (ok .long) (free .0) (in-range .0) other short (in-range .1)
+    in
+    record {
+      there = λ n e. ap (Rattle.bits.specs.Bits.part (splice store (placeBit p) pdu) (placeBit p)) e ∙ part-there store p pdu (ok .long) (free .0) short;
+      messages = all-both P Q (λ (e : Entry). frameIn (splice store (placeBit p) pdu) e ≡ frameIn store e) (messagesOf s) same (ok .messages) (free .1);
+      udata = all-both P Q (λ (e : Entry). frameIn (splice store (placeBit p) pdu) e ≡ frameIn store e) (udataOf s) same (ok .udata) (free .2);
+    }
+
+-- A question that is asked alike, of two that agree where it is passed.
+pub ask-same : {A : Type 0} (n : ℕ) {b c : Bool} {x y : Outcome A} → b ≡ c → (b ≡ true → x ≡ y) → ask n b x ≡ ask n c y
+ask-same n {b} {c} {x} {y} e f = ap (λ (t : Bool). ask n b x) e ∙ by-test b (λ t. rw (← e, t) (f t)) (λ t. rw (← e, t))
+
+header-short : (p : Pdu) → length (header p) ≤ 6
+header-short (BlAdata f nr ns) = omega arith
+header-short (BlData f ns) = omega arith
+header-short (BlUdata f) = omega arith
+header-short (BlAck f nr) = omega arith
+
+module _ (r : Request) (s : State) (store : List ℕ) (ok : Ready s store) (block : length (r .block) ≤ 64) (sdu : length (r .sdu) ≤ 2595) where
+  pdu-short : (p : Pdu) → length (header p ++ r .sdu) ≤ 2688
+  pdu-short p = omega (arith, length-append (header p) (r .sdu), header-short p)
+
+  receipt-in : receiptFree r s ≡ Step.receiptFree r (linkIn s store)
+  unfolding linkIn
+  receipt-in =
+      let p : ReceiptPlace = placeOf (s .receipts) (r .receipt) in
+      free-by (p .taken) (p .receipt) ∙ ap Rule.isFree (sym (place-in (s .receipts) (r .receipt)))
+
+  row-in : rowFor r s ≡ Step.rowFor r (linkIn s store)
+  unfolding rowFor Step.rowFor linkIn rowIn
+  row-in =
+      ap₂ _||_
+      (sym (any-map rowIn (λ (w : Link.Row). eqb (w .ssi) (r .ssi)) (rowsOf s)))
+      (ap (λ (n : ℕ). ltb n 256) (sym (length-map (rowsOf s) rowIn ∙ ok .counted .rows)))
+
+  messages-room : ltb (s .«n_messages») 64 ≡ Step.acknowledgedPlace (linkIn s store)
+  unfolding linkIn
+  messages-room = ap (λ (n : ℕ). ltb n 64) (sym (length-map (messagesOf s) (messageIn store) ∙ ok .counted .messages))
+
+  udata-room : ltb (s .«n_udata») 32 ≡ Step.unacknowledgedPlace (linkIn s store)
+  unfolding linkIn
+  udata-room = ap (λ (n : ℕ). ltb n 32) (sym (length-map (udataOf s) (sentIn store) ∙ ok .counted .udata))
+
+  unacknowledged-kept :
+      (k : ℕ) (p : Pdu) (ds : List ScheduledOutAck)
+      → ltb (s .«n_udata») 32 ≡ true
+      → keptIn (accepted (withUnacknowledged r k p ds s store))
+      ≡ accepted (done (Step.withUnacknowledged r k p (map dueIn ds) (linkIn s store)) [])
+  unfolding keptIn withUnacknowledged
+  unacknowledged-kept k p ds room =
+      ap (λ (l : Link.Link). accepted (done l []))
+      (with-unacknowledged-in r s store block k p ds
+      (placed s store (header p ++ r .sdu) ok (omega (arith, ltb-true (s .«n_udata») 32 room, ok .few)) (pdu-short p)))
+
+  acknowledged-kept :
+      ltb (s .«n_messages») 64 ≡ true
+      → keptIn (accepted (withAcknowledged r s store)) ≡ accepted (done (Step.withAcknowledged r (linkIn s store)) [])
+  unfolding keptIn withAcknowledged
+  acknowledged-kept room =
+      let p : Pdu = dataPdu r (seqOf (r .ssi) (rowsOf s)) (ackFor r s) in
+      ap (λ (l : Link.Link). accepted (done l []))
+      (with-acknowledged-in r s store block
+      (placed s store (header p ++ r .sdu) ok (omega (arith, ltb-true (s .«n_messages») 64 room, ok .fewToo)) (pdu-short p)))
+
+  stolen-kept :
+      (x : Found ScheduledOutAck)
+      → ltb (s .«n_udata») 32 ≡ true
+      → keptIn (accepted (withStolen r s store x)) ≡ accepted (done (Step.withStolen r (linkIn s store) (mapFound dueIn x)) [])
+  unfolding withStolen Step.withStolen dueIn linkIn
+  stolen-kept nothing room = unacknowledged-kept 0 (BlUdata false) (acksOf s) room
+  stolen-kept (first d ds) room = unacknowledged-kept (r .link) (BlAck (wantsFcs r) (d .nr)) ds room
+
+  pub unitdata-in : keptIn (onUnitdata r s store) ≡ Step.onUnitdata r (linkIn s store)
+  unfolding onUnitdata Step.onUnitdata linkIn
+  unitdata-in =
+      kept-ask 6 (receiptFree r s) _
+      ∙ ask-same 6 receipt-in
+      (λ t. kept-ask 8 (ltb (s .«n_udata») 32) _ ∙ ask-same 8 udata-room (λ u. unacknowledged-kept (r .link) (BlUdata false) (acksOf s) u))
+
+  off-path :
+      ltb (s .«n_udata») 32 ≡ true
+      → keptIn (accepted (cond (steals r) (withStolen r s store (ackFor r s)) (withStolen r s store nothing)))
+      ≡ accepted
+      (done (cond (steals r) (Step.withStolen r (linkIn s store) (Step.dueFor r (linkIn s store))) (Step.withStolen r (linkIn s store) nothing)) [])
+  off-path u =
+      by-test (steals r)
+      (λ t.
+      rw t
+      (stolen-kept (ackFor r s) u
+      ∙ ap (λ (x : Found Due). accepted (done (Step.withStolen r (linkIn s store) x) [])) (sym (ack-for-in r s store block))))
+      (λ t. rw t (stolen-kept nothing u))
+
+  pub data-in : keptIn (onData r s store) ≡ Step.onData r (linkIn s store)
+  unfolding onData Step.onData
+  data-in =
+      kept-ask 6 (receiptFree r s) _
+      ∙ ask-same 6 receipt-in
+      (λ t.
+      by-test (onAcknowledgedPath r)
+      (λ p.
+      rw p
+      (kept-ask 7 (rowFor r s) _
+      ∙ ask-same 7 row-in
+      (λ q. kept-ask 8 (ltb (s .«n_messages») 64) _ ∙ ask-same 8 messages-room (λ u. acknowledged-kept u))))
+      (λ p. rw p (kept-ask 8 (ltb (s .«n_udata») 32) _ ∙ ask-same 8 udata-room (λ u. off-path u))))

@@ -1,0 +1,119 @@
+-- What a frame, a report and a release leave of a state that passed question 1 passes it.
+use Prim.Native.Nat.{ℕ, _≤_, _<_}
+use native.Mathlib.Omega.{arith}
+use mathlib.Core.Path.{_≡_, _∙_}
+use mathlib.Core.Bool.{Bool, true, not, _&&_}
+use mathlib.Core.List.{List, _∷_}
+use mathlib.Core.Option.{Option, none, some}
+use borrow.Author.Tests.{ltb-true, lt-ltb, le-leb}
+use lib.Dec.{eqb, leb}
+use lib.IntN.{negsuc}
+use lib.ListN.{length, length-set}
+use Rattle.questions.specs.Outcome.{Outcome, accepted, refused}
+use Rattle.tdma_time.specs.Slots.{plus}
+use Rattle.tdma_time.specs.declared.TdmaTime.{TdmaTime}
+use Rattle.tdma_time.proofs.Laws.{plus-valid}
+use Rattle.tdma_time.proofs.Range as Time
+use Rattle.tx_receipt.specs.States.{is, final}
+use Rattle.tx_receipt.specs.declared.TxState.the-variants.{Pending, Discarded, Transmitted, Acknowledged}
+use Rattle.llc_rule.specs.Lists.{Found, nothing, first}
+use Rattle.llc_rule.specs.Calls.{Frame}
+use Rattle.llc_rule.specs.Messages.{slotBefore}
+use Rattle.llc_rule.specs.Ranges.{isType, frameInRange}
+use Rattle.llc_rule.specs.Received.{Received, nsOf, nrOf}
+use Rattle.llc_rule.proofs.Lists.{both, either, FoundBy, find-by}
+use Rattle.llc_state.specs.Ranges.{ackInRange, entryInRange}
+use Rattle.llc_state.specs.Receipts.{placeOf}
+use Rattle.llc_state.specs.States.{noReceipt}
+use Rattle.llc_state.specs.declared.Entry.{Entry}
+use Rattle.llc_state.specs.declared.ScheduledOutAck.{ScheduledOutAck}
+use Rattle.llc_state.specs.declared.ReceiptPlace.{ReceiptPlace}
+use Rattle.llc_state.specs.declared.State.{State}
+use Rattle.llc_steps.specs.States.{messagesOf, udataOf, acksOf, rowsOf, relaid}
+use Rattle.llc_steps.specs.Calls.{ackRoom, scheduled, expected, fits, mayFinish, answeredBy, answered, onReceived, held, waits, onReport, onRelease}
+use Rattle.llc_steps.specs.Sane.{Sane, SaneAfter}
+use Rattle.llc_steps.proofs.SaneRelaid.{Used, one-more, found-first, behind-first, sane-ready, marked-long, messages-used, udata-used, acks-used, rows-used, relaid-sane, receipts-sane, ask-sane}
+
+-- Frames ------------------------------------------------------------------------------------------------------------------
+
+-- The slot of a reply is one of the four.
+slot-in-range : (time : TdmaTime) → (1 ≤ slotBefore time) × (slotBefore time ≤ 4)
+unfolding slotBefore
+slot-in-range time =
+    let r = Time.in-range (plus time (negsuc 1)) (plus-valid time (negsuc 1)) in (r .t-low, r .t-high)
+
+module _ (f : Frame) (s : State) (store : List ℕ) (ok : Sane s store) (ssi : f .ssi < 16777216) (h : frameInRange f ≡ true) where
+  -- The new acknowledgement due is in range, and there is room for it.
+  type-in-range : isType (f .type) ≡ true
+  unfolding frameInRange
+  type-in-range = both {y = leb (length (f .block)) 64} (both {y = leb (length (f .pdu)) 2633} h .0) .0
+
+  new-in-range :
+      (ns : Bool)
+      → ackInRange (record { ssi = f .ssi; «ssi_type» = f .type; «carrier_num» = f .carrier; nr = ns; ts = slotBefore (s .dltime) }) ≡ true
+  unfolding ackInRange
+  new-in-range ns =
+      let t = slot-in-range (s .dltime) in
+      rw (lt-ltb (f .ssi) 16777216 ssi, type-in-range, le-leb 1 (slotBefore (s .dltime)) (t .0), le-leb (slotBefore (s .dltime)) 4 (t .1))
+
+  scheduled-used : (x : Option Bool) → ackRoom x s ≡ true → Used ackInRange 64 (scheduled f x s)
+  scheduled-used none room = acks-used s store ok
+  scheduled-used (some ns) room =
+      one-more ackInRange 64 (acksOf s) _
+      (omega (arith, ltb-true (s .«n_acks») 64 room, sane-ready s store ok .counted .acks)) (new-in-range ns) (acks-used s store ok)
+
+  with-sane :
+      (ms : List Entry) (ds : List ScheduledOutAck) (ps : List ReceiptPlace)
+      → Used entryInRange 64 ms
+      → Used ackInRange 64 ds
+      → length ps ≡ 128
+      → Sane (relaid s ms (udataOf s) ds ps (rowsOf s)) store
+  with-sane ms ds ps m d places =
+      relaid-sane s store ok ms (udataOf s) ds ps (rowsOf s) store m (udata-used s store ok) d places (rows-used s store ok) (ok .long)
+
+  -- The messages less the one that was acknowledged, or with it moved to the front.
+  answered-by-sane :
+      (nr : Bool) (p : Entry → Bool) (x : Found Entry) (ds : List ScheduledOutAck)
+      → FoundBy p (messagesOf s) x
+      → Used ackInRange 64 ds
+      → Sane (answeredBy nr x ds s) store
+  unfolding answeredBy
+  answered-by-sane nr p nothing ds by d = with-sane (messagesOf s) ds (s .receipts) (messages-used s store ok) d (ok .places)
+  answered-by-sane nr p (first e es) ds by d =
+      let moved = found-first entryInRange 64 p (messagesOf s) e es by (messages-used s store ok) in
+      either (λ (t : State). Sane t store) (fits nr e)
+      (with-sane es ds _ (behind-first entryInRange 64 e es moved) d (marked-long Acknowledged (e .receipt) (s .receipts) (ok .places)))
+      (with-sane (e ∷ es) ds (s .receipts) moved d (ok .places))
+
+  answered-sane : (x : Option Bool) (ds : List ScheduledOutAck) → Used ackInRange 64 ds → Sane (answered f x ds s) store
+  unfolding expected
+  answered-sane none ds d = with-sane (messagesOf s) ds (s .receipts) (messages-used s store ok) d (ok .places)
+  answered-sane (some nr) ds d = answered-by-sane nr _ (expected f s) ds (find-by _ (messagesOf s)) d
+
+  pub received-sane : (x : Outcome Received) → SaneAfter (onReceived f x s store)
+  unfolding onReceived
+  received-sane (refused n) = tt
+  received-sane (accepted r) =
+      ask-sane 13 (ackRoom (nsOf (r .header)) s) _
+      (λ room.
+      ask-sane 14 (mayFinish f (nrOf (r .header)) s) _
+      (λ may. answered-sane (nrOf (r .header)) (scheduled f (nsOf (r .header)) s) (scheduled-used (nsOf (r .header)) room)))
+
+-- Reports and releases ----------------------------------------------------------------------------------------------------
+
+module _ (s : State) (store : List ℕ) (ok : Sane s store) where
+  pub report-sane : (i how : ℕ) → SaneAfter (onReport i how s store)
+  unfolding onReport
+  report-sane i how =
+      ask-sane 15 (placeOf (s .receipts) i .taken && is Pending (placeOf (s .receipts) i .receipt) && not (waits i s)) _
+      (λ t.
+      receipts-sane s store ok _
+      (either (λ (ps : List ReceiptPlace). length ps ≡ 128) (eqb how 1)
+      (marked-long Transmitted i (s .receipts) (ok .places))
+      (marked-long Discarded i (s .receipts) (ok .places))))
+
+  pub release-sane : (i : ℕ) → SaneAfter (onRelease i s store)
+  unfolding onRelease
+  release-sane i =
+      ask-sane 16 (placeOf (s .receipts) i .taken && final (placeOf (s .receipts) i .receipt) && not (held i s)) _
+      (λ t. receipts-sane s store ok _ (length-set (s .receipts) i noReceipt ∙ ok .places))

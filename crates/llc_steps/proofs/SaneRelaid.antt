@@ -1,0 +1,172 @@
+-- A state that passed question 1 passes it with other elements in use that are in range.
+use Prim.Native.Nat.{ℕ, suc, _*_, _≤_}
+use native.Mathlib.Omega.{arith}
+use mathlib.Core.Path.{_≡_, _∙_, refl, ap}
+use mathlib.Core.Bool.{Bool, true, false}
+use mathlib.Core.List.{List, [], _∷_, _++_}
+use lib.ListN.{length, take, length-append, length-set}
+use lib.Seq.{length-take-le}
+use Rattle.questions.specs.Outcome.{Outcome, ask}
+use Rattle.tx_receipt.specs.declared.TxState.{TxState}
+use Rattle.llc_rule.specs.Lists.{all, Found, nothing, first, others}
+use Rattle.llc_rule.specs.Sound.{All}
+use Rattle.llc_rule.proofs.Lists.{both, and-true, all-append, Split, FoundBy}
+use Rattle.llc_rule.proofs.SoundLists.{all-middle}
+use Rattle.llc_state.specs.Ranges.{entryInRange, ackInRange, rowInRange}
+use Rattle.llc_state.specs.Receipts.{placeOf, markedPlace, mark}
+use Rattle.llc_state.specs.States.{noEntry, noAck, noRow}
+use Rattle.llc_state.specs.declared.Entry.{Entry}
+use Rattle.llc_state.specs.declared.ScheduledOutAck.{ScheduledOutAck}
+use Rattle.llc_state.specs.declared.ReceiptPlace.{ReceiptPlace}
+use Rattle.llc_state.specs.declared.LinkSendSeq.{LinkSendSeq}
+use Rattle.llc_state.specs.declared.State.{State}
+use Rattle.llc_state.proofs.InRange.{range-tells, in-range}
+use Rattle.llc_steps.specs.States.{messagesOf, udataOf, acksOf, rowsOf, relaid, Kept}
+use Rattle.llc_steps.specs.Holds.{Ready}
+use Rattle.llc_steps.specs.Sane.{Sane, SaneAfter}
+use Rattle.llc_steps.proofs.Relaid.{take-laid}
+use Rattle.llc_steps.proofs.Ready.{ready}
+use Rattle.llc_steps.proofs.Laid.{length-laid}
+
+-- Elements in use ---------------------------------------------------------------------------------------------------------
+
+module _ {A : Type 0} (p : A → Bool) where
+  -- At most k elements, each of which passes a test.
+  pub record Used (k : ℕ) (l : List A) : Type 0 where
+    pub few : length l ≤ k
+    pub each : All (λ (x : A). p x ≡ true) l
+
+  -- One test after the other, and all at once.
+  all-each : (l : List A) → all p l ≡ true → All (λ (x : A). p x ≡ true) l
+  unfolding all
+  all-each [] h = tt
+  all-each (x ∷ l) h = let t = both {x = p x} {y = all p l} h in (t .0, all-each l (t .1))
+
+  each-all : (l : List A) → All (λ (x : A). p x ≡ true) l → all p l ≡ true
+  unfolding all
+  each-all [] a = refl
+  each-all (x ∷ l) a = and-true (a .0) (each-all l (a .1))
+
+  -- The first n of an array.
+  used-first : (k n : ℕ) (l : List A) → length l ≡ k → n ≤ k → all p (take n l) ≡ true → Used k (take n l)
+  used-first k n l long h a = record { few = omega (arith, length-take-le n l (omega arith)); each = all-each (take n l) a }
+
+  -- None; one more, put last; those with the one that was found at the front, and those without it.
+  pub none-used : (k : ℕ) → Used k []
+  none-used k = record { few = omega arith; each = tt }
+
+  pub one-more : (k : ℕ) (l : List A) (x : A) → suc (length l) ≤ k → p x ≡ true → Used k l → Used k (l ++ (x ∷ []))
+  one-more k l x room e u =
+      record {
+        few = omega (arith, length-append l (x ∷ []));
+        each = all-append (λ (y : A). p y ≡ true) l (x ∷ []) (u .each) (e, tt);
+      }
+
+  pub found-first : (k : ℕ) (q : A → Bool) (l : List A) (x : A) (xs : List A) → Split q l x xs → Used k l → Used k (x ∷ xs)
+  found-first k q l x xs s u =
+      let whole : All (λ (y : A). p y ≡ true) (s .front ++ (x ∷ s .back)) = rw (s .whole) at (u .each) in
+      record {
+        few =
+            omega (
+              arith,
+              u .few,
+              ap length (s .whole),
+              ap length (s .rest),
+              length-append (s .front) (x ∷ s .back),
+              length-append (s .front) (s .back),
+            );
+        each = rw (s .rest) (all-middle (λ (y : A). p y ≡ true) (s .front) x (s .back) whole);
+      }
+
+  pub behind-first : (k : ℕ) (x : A) (xs : List A) → Used k (x ∷ xs) → Used k xs
+  behind-first k x xs u = record { few = omega (arith, u .few); each = u .each .1 }
+
+  pub others-used : (k : ℕ) (q : A → Bool) (l : List A) (f : Found A) → FoundBy q l f → Used k l → Used k (others f l)
+  others-used k q l nothing s u = u
+  others-used k q l (first x xs) s u = behind-first k x xs (found-first k q l x xs s u)
+
+-- A state -----------------------------------------------------------------------------------------------------------------
+
+module _ (s : State) (store : List ℕ) (ok : Sane s store) where
+  -- What of it a call needs, and what is in use.
+  pub sane-ready : Ready s store
+  sane-ready =
+      ready s store
+      (record { messages = ok .messages; udata = ok .udata; acks = ok .acks; places = ok .places; rows = ok .rows })
+      (ok .range)
+      (ok .long)
+
+  pub messages-used : Used entryInRange 64 (messagesOf s)
+  messages-used =
+      let r = range-tells s (ok .range) in
+      used-first entryInRange 64 (s .«n_messages») (s .«outbound_messages») (ok .messages) (r .head .messages) (r .messages)
+
+  pub udata-used : Used entryInRange 32 (udataOf s)
+  udata-used =
+      let r = range-tells s (ok .range) in
+      used-first entryInRange 32 (s .«n_udata») (s .«outbound_udata_messages») (ok .udata) (r .head .udata) (r .udata)
+
+  pub acks-used : Used ackInRange 64 (acksOf s)
+  acks-used =
+      let r = range-tells s (ok .range) in
+      used-first ackInRange 64 (s .«n_acks») (s .«scheduled_out_acks») (ok .acks) (r .head .acks) (r .acks)
+
+  pub rows-used : Used rowInRange 256 (rowsOf s)
+  rows-used =
+      let r = range-tells s (ok .range) in
+      used-first rowInRange 256 (s .«n_rows») (s .«link_send_seq») (ok .rows) (r .head .rows) (r .rows)
+
+  -- The state with other elements in use, and a store that is as long.
+  pub relaid-sane :
+      (ms us : List Entry) (ds : List ScheduledOutAck) (ps : List ReceiptPlace) (rs : List LinkSendSeq) (after : List ℕ)
+      → Used entryInRange 64 ms
+      → Used entryInRange 32 us
+      → Used ackInRange 64 ds
+      → length ps ≡ 128
+      → Used rowInRange 256 rs
+      → length after ≡ 8 * 32256
+      → Sane (relaid s ms us ds ps rs) after
+  unfolding relaid
+  relaid-sane ms us ds ps rs after m u d places w long =
+      let r = range-tells s (ok .range) in
+      let q = r .head in
+      record {
+        messages =
+            length-laid noEntry (s .«n_messages») ms (s .«outbound_messages») (omega (arith, ok .messages, q .messages)) (omega (arith, ok .messages, m .few))
+            ∙ ok .messages;
+        udata =
+            length-laid noEntry (s .«n_udata») us (s .«outbound_udata_messages») (omega (arith, ok .udata, q .udata)) (omega (arith, ok .udata, u .few))
+            ∙ ok .udata;
+        acks =
+            length-laid noAck (s .«n_acks») ds (s .«scheduled_out_acks») (omega (arith, ok .acks, q .acks)) (omega (arith, ok .acks, d .few)) ∙ ok .acks;
+        places = places;
+        rows =
+            length-laid noRow (s .«n_rows») rs (s .«link_send_seq») (omega (arith, ok .rows, q .rows)) (omega (arith, ok .rows, w .few)) ∙ ok .rows;
+        range =
+            in-range (relaid s ms us ds ps rs)
+            (record {
+              head = record { messages = m .few; udata = u .few; acks = d .few; rows = w .few; timer = q .timer; time = q .time };
+              messages =
+                  ap (all entryInRange) (take-laid noEntry (s .«n_messages») ms (s .«outbound_messages»)) ∙ each-all entryInRange ms (m .each);
+              udata = ap (all entryInRange) (take-laid noEntry (s .«n_udata») us (s .«outbound_udata_messages»)) ∙ each-all entryInRange us (u .each);
+              acks = ap (all ackInRange) (take-laid noAck (s .«n_acks») ds (s .«scheduled_out_acks»)) ∙ each-all ackInRange ds (d .each);
+              rows = ap (all rowInRange) (take-laid noRow (s .«n_rows») rs (s .«link_send_seq»)) ∙ each-all rowInRange rs (w .each);
+            });
+        long = long;
+      }
+
+  -- With other receipts alone.
+  pub receipts-sane : (ps : List ReceiptPlace) → length ps ≡ 128 → Sane (relaid s (messagesOf s) (udataOf s) (acksOf s) ps (rowsOf s)) store
+  receipts-sane ps places =
+      relaid-sane (messagesOf s) (udataOf s) (acksOf s) ps (rowsOf s) store messages-used udata-used acks-used places rows-used (ok .long)
+
+-- Calls -------------------------------------------------------------------------------------------------------------------
+
+-- Where a receipt is marked, there are as many as before.
+pub marked-long : (state : TxState) (i : ℕ) (ps : List ReceiptPlace) → length ps ≡ 128 → length (mark state i ps) ≡ 128
+marked-long state i ps h = length-set ps i (markedPlace state (placeOf ps i)) ∙ h
+
+-- What a call leaves behind a question.
+pub ask-sane : (n : ℕ) (b : Bool) (o : Outcome Kept) → (b ≡ true → SaneAfter o) → SaneAfter (ask n b o)
+ask-sane n true o f = f refl
+ask-sane n false o f = tt

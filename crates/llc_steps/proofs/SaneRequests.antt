@@ -1,0 +1,199 @@
+-- What a request leaves of a state and a store that passed question 1 passes it.
+use Prim.Native.Nat.{ℕ, suc, _+_, _≤_, _<_}
+use native.Mathlib.Omega.{arith}
+use mathlib.Core.Path.{_≡_, _∙_}
+use mathlib.Core.Bool.{Bool, true, false, not, _||_, false≢true}
+use mathlib.Core.List.{List, [], _∷_, _++_}
+use borrow.Author.Tests.{ltb-true, lt-ltb, le-leb}
+use lib.Dec.{eqb, leb, ltb}
+use lib.ListN.{length, length-set}
+use Rattle.bits.specs.Bits.{splice}
+use Rattle.bits.proofs.Laws.{length-splice}
+use Rattle.questions.specs.Outcome.{accepted}
+use Rattle.tdma_time.specs.Slots.{valid}
+use Rattle.llc_pdus.specs.Headers.{header}
+use Rattle.llc_pdus.specs.declared.Pdu.{Pdu}
+use Rattle.llc_pdus.specs.declared.Pdu.the-variants.{BlUdata, BlAck}
+use Rattle.llc_rule.specs.Lists.{any, Found, nothing, first, others}
+use Rattle.llc_rule.specs.Calls.{Request}
+use Rattle.llc_rule.specs.Ranges.{steals, wantsFcs, hasMask, isType, isReceipt, requestInRange}
+use Rattle.llc_rule.specs.Messages.{sentOf}
+use Rattle.llc_rule.specs.Sound.{All}
+use Rattle.llc_rule.specs.Step.{onAcknowledgedPath}
+use Rattle.llc_rule.proofs.Lists.{both, by-test, by-choice, either, find-by}
+use Rattle.llc_rule.proofs.Room.{sent-small}
+use Rattle.llc_state.specs.Ranges.{entryInRange, ackInRange, rowInRange}
+use Rattle.llc_state.specs.Receipts.{pendingPlace}
+use Rattle.llc_state.specs.View.{placeBit}
+use Rattle.llc_state.specs.declared.ScheduledOutAck.{ScheduledOutAck}
+use Rattle.llc_state.specs.declared.LinkSendSeq.{LinkSendSeq}
+use Rattle.llc_state.specs.declared.State.{State}
+use Rattle.llc_steps.specs.States.{messagesOf, udataOf, acksOf, rowsOf, Kept}
+use Rattle.llc_steps.specs.Places.{freePlace}
+use Rattle.llc_steps.specs.Calls.{entryOf, carrierFor, ackFor, seqOf, withSeq, dataPdu, withAcknowledged, withUnacknowledged, withStolen, receiptFree, rowFor, onData, onUnitdata}
+use Rattle.llc_steps.specs.Sane.{Sane, SaneAfter}
+use Rattle.llc_steps.proofs.Places.{free-place}
+use Rattle.llc_steps.proofs.SaneRelaid.{Used, one-more, others-used, sane-ready, messages-used, udata-used, acks-used, rows-used, relaid-sane, ask-sane}
+
+-- Rows: one is set, or put last where an SSI has none.
+with-seq-in-range :
+    (a : ℕ) (b : Bool) (rs : List LinkSendSeq)
+    → a < 16777216
+    → All (λ (r : LinkSendSeq). rowInRange r ≡ true) rs
+    → All (λ (r : LinkSendSeq). rowInRange r ≡ true) (withSeq a b rs)
+unfolding withSeq rowInRange
+with-seq-in-range a b [] h w = (lt-ltb a 16777216 h, tt)
+with-seq-in-range a b (r ∷ rs) h w =
+    either (All (λ (r : LinkSendSeq). rowInRange r ≡ true)) (eqb (r .ssi) a)
+    (lt-ltb a 16777216 h, w .1)
+    (w .0, with-seq-in-range a b rs h (w .1))
+
+length-with-seq : (a : ℕ) (b : Bool) (rs : List LinkSendSeq) → length (withSeq a b rs) ≤ suc (length rs)
+unfolding withSeq
+length-with-seq a b [] = omega arith
+length-with-seq a b (r ∷ rs) =
+    either (λ (t : List LinkSendSeq). length t ≤ suc (suc (length rs))) (eqb (r .ssi) a)
+    (omega arith)
+    (omega (arith, length-with-seq a b rs))
+
+length-with-seq-there :
+    (a : ℕ) (b : Bool) (rs : List LinkSendSeq)
+    → any (λ (r : LinkSendSeq). eqb (r .ssi) a) rs ≡ true
+    → length (withSeq a b rs) ≤ length rs
+unfolding withSeq any
+length-with-seq-there a b [] h = absurd (false≢true h)
+length-with-seq-there a b (r ∷ rs) h =
+    by-choice (λ (t : List LinkSendSeq). length t ≤ suc (length rs)) (eqb (r .ssi) a)
+    (λ t. omega arith)
+    (λ f. omega (arith, length-with-seq-there a b rs (rw f at h)))
+
+-- What question 5 says of the fields of a request that an entry takes over.
+record Fields (r : Request) : Type 0 where
+  type : isType (r .type) ≡ true
+  mask : ltb (r .mask) 16 ≡ true
+  given : hasMask r || eqb (r .mask) 0 ≡ true
+  receipt : isReceipt (r .receipt) ≡ true
+  block : leb (length (r .block)) 64 ≡ true
+
+fields : (r : Request) → requestInRange r ≡ true → Fields r
+unfolding requestInRange
+fields r h =
+    let h₁ = both {y = leb (length (r .sdu)) 2595} h in
+    let h₂ = both {y = leb (length (r .block)) 64} (h₁ .0) in
+    let h₃ = both {y = isReceipt (r .receipt)} (h₂ .0) in
+    let h₄ = both {y = hasMask r || eqb (r .mask) 0} (h₃ .0) in
+    let h₅ = both {y = ltb (r .mask) 16} (h₄ .0) in
+    let h₆ = both {y = ltb (r .flags) 8} (h₅ .0) in
+    let h₇ = both {y = eqb (r .given) 1 || eqb (r .carrier) 0} (h₆ .0) in
+    let h₈ = both {y = leb (r .given) 1} (h₇ .0) in
+    record { type = h₈ .0; mask = h₅ .1; given = h₄ .1; receipt = h₃ .1; block = h₂ .1 }
+
+module _ (r : Request) (s : State) (store : List ℕ) (ok : Sane s store) (ssi : r .ssi < 16777216) (h : requestInRange r ≡ true) where
+  -- The new entry is in range, and its frame lies within the store.
+  new-in-range :
+      (c k place len : ℕ) (ns : Bool)
+      → place < 96
+      → len ≤ 2601
+      → entryInRange (entryOf r c k place len ns) ≡ true
+  unfolding entryInRange entryOf valid
+  new-in-range c k place len ns inside short =
+      let t = fields r h in
+      rw (lt-ltb (r .ssi) 16777216 ssi, t .type, t .mask, t .given, t .receipt, t .block, lt-ltb place 96 inside, le-leb len 2601 short)
+
+  pdu-short : (p : Pdu) → length (header p ++ r .sdu) ≤ 2601
+  unfolding sentOf
+  pdu-short p = sent-small r 0 0 p h .pdu
+
+  place-inside : s .«n_messages» + s .«n_udata» ≤ 95 → freePlace s < 96
+  place-inside few = let n = sane-ready s store ok .counted in free-place s (omega (arith, n .messages, n .udata)) .0
+
+  store-long : (p : Pdu) → freePlace s < 96 → length (splice store (placeBit (freePlace s)) (header p ++ r .sdu)) ≡ length store
+  store-long p inside = length-splice store (placeBit (freePlace s)) (header p ++ r .sdu) (omega (arith, ok .long, pdu-short p))
+
+  -- The acknowledgements due less the one that is used up, and the rows with the one that flips.
+  acks-but : Used ackInRange 64 (others (ackFor r s) (acksOf s))
+  unfolding ackFor
+  acks-but = others-used ackInRange 64 _ (acksOf s) (ackFor r s) (find-by _ (acksOf s)) (acks-used s store ok)
+
+  rows-then : (b : Bool) → rowFor r s ≡ true → Used rowInRange 256 (withSeq (r .ssi) b (rowsOf s))
+  unfolding rowFor
+  rows-then b row =
+      let w = rows-used s store ok in
+      let n = sane-ready s store ok .counted in
+      record {
+        few =
+            by-test (any (λ (w : LinkSendSeq). eqb (w .ssi) (r .ssi)) (rowsOf s))
+            (λ t. omega (arith, w .few, length-with-seq-there (r .ssi) b (rowsOf s) t))
+            (λ f. omega (arith, ltb-true (s .«n_rows») 256 (rw f at row), length-with-seq (r .ssi) b (rowsOf s), n .rows));
+        each = with-seq-in-range (r .ssi) b (rowsOf s) ssi (w .each);
+      }
+
+  -- A message put last, acknowledged or not.
+  acknowledged-sane : rowFor r s ≡ true → ltb (s .«n_messages») 64 ≡ true → SaneAfter (accepted (withAcknowledged r s store))
+  unfolding withAcknowledged
+  acknowledged-sane row room =
+      let q = sane-ready s store ok in
+      let less : s .«n_messages» < 64 = ltb-true (s .«n_messages») 64 room in
+      let ns : Bool = seqOf (r .ssi) (rowsOf s) in
+      let p : Pdu = dataPdu r ns (ackFor r s) in
+      let inside = place-inside (omega (arith, less, q .fewToo)) in
+      relaid-sane s store ok _ _ _ _ _ _
+      (one-more entryInRange 64 (messagesOf s) _ (omega (arith, less, q .counted .messages))
+      (new-in-range (carrierFor r s) 0 (freePlace s) (length (header p ++ r .sdu)) ns inside (pdu-short p))
+      (messages-used s store ok))
+      (udata-used s store ok)
+      acks-but
+      (length-set (s .receipts) (r .receipt) (pendingPlace true) ∙ ok .places)
+      (rows-then (not ns) row)
+      (store-long p inside ∙ ok .long)
+
+  unacknowledged-sane :
+      (k : ℕ) (p : Pdu) (ds : List ScheduledOutAck)
+      → Used ackInRange 64 ds
+      → ltb (s .«n_udata») 32 ≡ true
+      → SaneAfter (accepted (withUnacknowledged r k p ds s store))
+  unfolding withUnacknowledged
+  unacknowledged-sane k p ds d room =
+      let q = sane-ready s store ok in
+      let less : s .«n_udata» < 32 = ltb-true (s .«n_udata») 32 room in
+      let inside = place-inside (omega (arith, less, q .few)) in
+      relaid-sane s store ok _ _ _ _ _ _
+      (messages-used s store ok)
+      (one-more entryInRange 32 (udataOf s) _ (omega (arith, less, q .counted .udata))
+      (new-in-range (carrierFor r s) k (freePlace s) (length (header p ++ r .sdu)) false inside (pdu-short p))
+      (udata-used s store ok))
+      d
+      (length-set (s .receipts) (r .receipt) (pendingPlace false) ∙ ok .places)
+      (rows-used s store ok)
+      (store-long p inside ∙ ok .long)
+
+  stolen-sane :
+      (f : Found ScheduledOutAck)
+      → Used ackInRange 64 (others f (acksOf s))
+      → ltb (s .«n_udata») 32 ≡ true
+      → SaneAfter (accepted (withStolen r s store f))
+  unfolding withStolen
+  stolen-sane nothing d room = unacknowledged-sane 0 (BlUdata false) (acksOf s) d room
+  stolen-sane (first a ds) d room = unacknowledged-sane (r .link) (BlAck (wantsFcs r) (a .nr)) ds d room
+
+  -- The two requests.
+  pub data-sane : SaneAfter (onData r s store)
+  unfolding onData
+  data-sane =
+      ask-sane 6 (receiptFree r s) _
+      (λ free.
+      either SaneAfter (onAcknowledgedPath r)
+      (ask-sane 7 (rowFor r s) _ (λ row. ask-sane 8 (ltb (s .«n_messages») 64) _ (λ room. acknowledged-sane row room)))
+      (ask-sane 8 (ltb (s .«n_udata») 32) _
+      (λ room.
+      either (λ (k : Kept). SaneAfter (accepted k)) (steals r)
+      (stolen-sane (ackFor r s) acks-but room)
+      (stolen-sane nothing (acks-used s store ok) room))))
+
+  pub unitdata-sane : SaneAfter (onUnitdata r s store)
+  unfolding onUnitdata
+  unitdata-sane =
+      ask-sane 6 (receiptFree r s) _
+      (λ free.
+      ask-sane 8 (ltb (s .«n_udata») 32) _
+      (λ room. unacknowledged-sane (r .link) (BlUdata false) (acksOf s) (acks-used s store ok) room))

@@ -1,0 +1,189 @@
+-- What a tick end leaves of a state that passed question 1 passes it.
+use Prim.Native.Nat.{ℕ, _+_}
+use native.Mathlib.Omega.{arith}
+use mathlib.Core.Path.{_≡_}
+use mathlib.Core.Bool.{Bool, true, not, _&&_, _||_}
+use mathlib.Core.List.{List, [], _∷_}
+use borrow.Author.Tests.{ltb-true, le-leb}
+use lib.Dec.{eqb, leb, ltb}
+use lib.ListN.{length, length-append}
+use Rattle.tdma_time.specs.Slots.{valid}
+use Rattle.tdma_time.specs.declared.TdmaTime.{TdmaTime}
+use Rattle.tx_receipt.specs.States.{is}
+use Rattle.tx_receipt.specs.declared.TxState.the-variants.{Pending, Transmitted, Lost}
+use Rattle.llc_rule.specs.Lists.{among, Visit, walk}
+use Rattle.llc_rule.specs.Messages.{overdue, reported}
+use Rattle.llc_rule.specs.Ranges.{isType, isReceipt}
+use Rattle.llc_rule.specs.Sound.{All}
+use Rattle.llc_rule.proofs.Lists.{both, by-choice, either, all-append}
+use Rattle.llc_state.specs.Ranges.{isSsi, entryInRange}
+use Rattle.llc_state.specs.Receipts.{placeOf}
+use Rattle.llc_state.specs.declared.Entry.{Entry}
+use Rattle.llc_state.specs.declared.ReceiptPlace.{ReceiptPlace}
+use Rattle.llc_state.specs.declared.State.{State}
+use Rattle.llc_state.proofs.InRange.{range-tells}
+use Rattle.llc_steps.specs.States.{messagesOf, rowsOf}
+use Rattle.llc_steps.specs.Sane.{Sane}
+use Rattle.llc_steps.specs.TickEnd.{submitted, doneAt, timed, aged, retransmission, Sending, firstSending, retransmissions, firstSendings, ticked}
+use Rattle.llc_steps.proofs.SaneRelaid.{Used, none-used, marked-long, messages-used, rows-used, relaid-sane}
+
+-- A visit after which at most k stay, each of which passes a test, and the state is as it has to be.
+record Visited {S A R : Type 0} (p : A → Bool) (Q : S → Type 0) (k : ℕ) (v : Visit S A R) : Type 0 where
+  stays : Used p k (v .stays)
+  state : Q (v .state)
+
+-- At most as many as before stay after a walk, if it is so of each visit.
+visited-walk :
+    {S A R : Type 0} (p : A → Bool) (Q : S → Type 0) (f : S → A → Visit S A R)
+    → ((s : S) (x : A) → Q s → p x ≡ true → Visited p Q 1 (f s x))
+    → (s : S) (l : List A)
+    → Q s
+    → All (λ (x : A). p x ≡ true) l
+    → Visited p Q (length l) (walk f s l)
+unfolding walk
+visited-walk p Q f h s [] q a = record { stays = none-used p 0; state = q }
+visited-walk p Q f h s (x ∷ l) q a =
+    let one = h s x q (a .0) in
+    let rest = visited-walk p Q f h (f s x .state) l (one .state) (a .1) in
+    record {
+      stays =
+          record {
+            few = omega (arith, length-append (f s x .stays) (walk f (f s x .state) l .stays), one .stays .few, rest .stays .few);
+            each = all-append (λ (y : _). p y ≡ true) (f s x .stays) (walk f (f s x .state) l .stays) (one .stays .each) (rest .stays .each);
+          };
+      state = rest .state;
+    }
+
+one-stays : {A : Type 0} (p : A → Bool) (x : A) → p x ≡ true → Used p 1 (x ∷ [])
+one-stays p x e = record { few = omega arith; each = (e, tt) }
+
+-- As many receipts as there are.
+abbrev Full : List ReceiptPlace → Type 0
+Full ps = length ps ≡ 128
+
+-- What question 1 says of an entry, apart from how often it was sent again and its done time.
+abbrev restInRange : Entry → Bool
+restInRange e =
+    isSsi (e .ssi)
+    && isType (e .«ssi_type»)
+    && ltb (e .mask) 16
+    && (e .«has_mask» || eqb (e .mask) 0)
+    && isReceipt (e .receipt)
+    && leb (e .«block_len») 64
+    && ltb (e .place) 96
+    && leb (e .len) 2601
+
+record EntryParts (e : Entry) : Type 0 where
+  rest : restInRange e ≡ true
+  count : leb (e .«retransmit_count») 3 ≡ true
+  time : valid (e .«t_umac_done») ≡ true
+
+entry-tells : (e : Entry) → entryInRange e ≡ true → EntryParts e
+unfolding entryInRange
+entry-tells e h =
+    let last = both {x = restInRange e && leb (e .«retransmit_count») 3} {y = valid (e .«t_umac_done»)} h in
+    let next = both {x = restInRange e} {y = leb (e .«retransmit_count») 3} (last .0) in
+    record { rest = next .0; count = next .1; time = last .1 }
+
+-- So an entry stays in range where it is passed down, and where it gets its done time.
+submitted-in-range : (k : ℕ) (e : Entry) → leb k 3 ≡ true → entryInRange e ≡ true → entryInRange (submitted k e) ≡ true
+unfolding entryInRange
+submitted-in-range k e few h = let t = entry-tells e h in rw (t .rest, few, t .time)
+
+done-in-range : (time : TdmaTime) (e : Entry) → valid time ≡ true → entryInRange e ≡ true → entryInRange (doneAt time e) ≡ true
+unfolding entryInRange
+done-in-range time e v h = let t = entry-tells e h in rw (t .rest, t .count, v)
+
+timed-in-range :
+    (time : TdmaTime) (ps : List ReceiptPlace) (e : Entry)
+    → valid time ≡ true
+    → entryInRange e ≡ true
+    → entryInRange (timed time ps e) ≡ true
+timed-in-range time ps e v h =
+    either (λ (x : Entry). entryInRange x ≡ true)
+    (not (e .«has_umac_done») && (placeOf ps (e .receipt) .taken && reported (placeOf ps (e .receipt) .receipt)))
+    (done-in-range time e v h)
+    h
+
+-- Resends.
+aged-visited :
+    (time : TdmaTime) (t251 : ℕ) (ps : List ReceiptPlace) (e : Entry)
+    → Full ps
+    → entryInRange e ≡ true
+    → Visited entryInRange Full 1 (aged time t251 ps e)
+aged-visited time t251 ps e n h =
+    let gone : Bool = placeOf ps (e .receipt) .taken && is Transmitted (placeOf ps (e .receipt) .receipt) in
+    either (Visited entryInRange Full 1) (e .«has_umac_done» && overdue time t251 (e .«t_umac_done»))
+    (by-choice (Visited entryInRange Full 1) (ltb (e .«retransmit_count») 3)
+    (λ t.
+    record {
+      stays =
+          one-stays entryInRange (submitted (e .«retransmit_count» + 1) e)
+          (submitted-in-range (e .«retransmit_count» + 1) e
+          (le-leb (e .«retransmit_count» + 1) 3 (omega (arith, ltb-true (e .«retransmit_count») 3 t))) h);
+      state = marked-long Pending (e .receipt) ps n;
+    })
+    (λ f. record { stays = none-used entryInRange 1; state = either Full gone (marked-long Lost (e .receipt) ps n) n }))
+    (record { stays = one-stays entryInRange e h; state = n })
+
+retransmission-visited :
+    (time : TdmaTime) (t251 : ℕ)
+    → valid time ≡ true
+    → (ps : List ReceiptPlace) (e : Entry)
+    → Full ps
+    → entryInRange e ≡ true
+    → Visited entryInRange Full 1 (retransmission time t251 ps e)
+unfolding retransmission
+retransmission-visited time t251 v ps e n h = aged-visited time t251 ps (timed time ps e) n (timed-in-range time ps e v h)
+
+-- First sendings.
+abbrev FullIn : Sending → Type 0
+FullIn s = Full (s .receipts)
+
+first-visited : (s : Sending) (e : Entry) → FullIn s → entryInRange e ≡ true → Visited entryInRange FullIn 1 (firstSending s e)
+unfolding firstSending
+first-visited s e n h =
+    either (Visited entryInRange FullIn 1) (e .«submitted_to_umac»)
+    (record { stays = one-stays entryInRange e h; state = n })
+    (either (Visited entryInRange FullIn 1) (among (e .ssi) (s .blocked))
+    (record { stays = one-stays entryInRange e h; state = n })
+    (record {
+      stays =
+          one-stays entryInRange (submitted (e .«retransmit_count») e)
+          (submitted-in-range (e .«retransmit_count») e (entry-tells e h .count) h);
+      state = marked-long Pending (e .receipt) (s .receipts) n;
+    }))
+
+-- Both passes, and the state after them.
+module _ (s : State) (store : List ℕ) (ok : Sane s store) where
+  retransmissions-visited : Visited entryInRange Full (length (messagesOf s)) (retransmissions s)
+  unfolding retransmissions
+  retransmissions-visited =
+      visited-walk entryInRange Full (retransmission (s .dltime) (s .t251))
+      (retransmission-visited (s .dltime) (s .t251) (range-tells s (ok .range) .head .time))
+      (s .receipts)
+      (messagesOf s)
+      (ok .places)
+      (messages-used s store ok .each)
+
+  first-sendings-visited : Visited entryInRange FullIn (length (retransmissions s .stays)) (firstSendings s)
+  unfolding firstSendings
+  first-sendings-visited =
+      visited-walk entryInRange FullIn firstSending first-visited
+      (record { receipts = retransmissions s .state; blocked = [] })
+      (retransmissions s .stays)
+      (retransmissions-visited .state)
+      (retransmissions-visited .stays .each)
+
+  pub ticked-sane : Sane (ticked s) store
+  unfolding ticked
+  ticked-sane =
+      let again = retransmissions-visited in
+      let firsts = first-sendings-visited in
+      relaid-sane s store ok (firstSendings s .stays) [] [] (firstSendings s .state .receipts) (rowsOf s) store
+      (record { few = omega (arith, messages-used s store ok .few, again .stays .few, firsts .stays .few); each = firsts .stays .each })
+      (none-used _ 32)
+      (none-used _ 64)
+      (firsts .state)
+      (rows-used s store ok)
+      (ok .long)

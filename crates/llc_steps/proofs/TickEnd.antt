@@ -1,0 +1,199 @@
+-- A tick end on the entries is the tick end of the link that they hold.
+use Prim.Native.Nat.{ℕ}
+use native.Mathlib.Numerals.{add-one}
+use mathlib.Core.Path.{_≡_, _∙_, refl, sym, ap, ap₂}
+use mathlib.Core.Bool.{Bool, true, false, cond, not, _&&_}
+use mathlib.Core.List.{List, [], _∷_, _++_, map}
+use mathlib.Core.Option.{none, some}
+use lib.Dec.{ltb}
+use Rattle.tdma_time.specs.declared.TdmaTime.{TdmaTime}
+use Rattle.tx_receipt.specs.States.{is}
+use Rattle.tx_receipt.specs.declared.TxState.the-variants.{Pending, Transmitted, Lost}
+use Rattle.llc_rule.specs.Lists.{among, Visit, _then_, walk}
+use Rattle.llc_rule.specs.Records.{Record, acknowledged, unacknowledged}
+use Rattle.llc_rule.specs.Messages as Rule
+use Rattle.llc_rule.specs.Messages.{Message, Place, overdue, reported, replyTo}
+use Rattle.llc_rule.specs.Link as Link
+use Rattle.llc_rule.specs.Step as Step
+use Rattle.llc_rule.proofs.Lists.{ap-cond}
+use Rattle.llc_state.specs.View.{frameIn, sentIn, messageIn, dueIn, placeIn, rowIn, linkIn}
+use Rattle.llc_state.specs.declared.Entry.{Entry}
+use Rattle.llc_state.specs.declared.ReceiptPlace.{ReceiptPlace}
+use Rattle.llc_state.specs.declared.State.{State}
+use Rattle.llc_steps.specs.States.{messagesOf, udataOf, acksOf, rowsOf}
+use Rattle.llc_state.specs.Receipts.{placeOf, mark}
+use Rattle.llc_state.proofs.Places.{mark-in, taken-in}
+use Rattle.llc_state.proofs.Maps.{map-append, map-map}
+use Rattle.llc_steps.proofs.Relaid.{relaid-in}
+use Rattle.llc_steps.specs.TickEnd.{submitted, doneAt, timed, stay, resend, leave, aged, retransmission, Sending, firstSending, retransmissions, firstSendings, ticked, tickRecords}
+
+-- A walk seen through views of its state, its elements and what it puts out.
+module _ {S T A B R Q : Type 0} (state : S → T) (element : A → B) (put : R → Q) where
+  abbrev pub viewed : Visit S A R → Visit T B Q
+  viewed v = record { state = state (v .state); stays = map element (v .stays); out = map put (v .out) }
+
+  module _ (f : S → A → Visit S A R) (g : T → B → Visit T B Q) (same : (s : S) (x : A) → g (state s) (element x) ≡ viewed (f s x)) where
+    pub walk-viewed : (s : S) (l : List A) → walk g (state s) (map element l) ≡ viewed (walk f s l)
+    unfolding walk
+    walk-viewed s [] = refl
+    walk-viewed s (x ∷ l) =
+        let v : Visit S A R = f s x in
+        let w : Visit S A R = walk f (v .state) l in
+        ap (λ (u : Visit T B Q). _then_ u (walk g (u .state) (map element l))) (same s x)
+        ∙ ap (_then_ (viewed v)) (walk-viewed (v .state) l)
+        ∙ (λ i.
+        record {
+          state = state (w .state);
+          stays = sym (map-append element (v .stays) (w .stays)) i;
+          out = sym (map-append put (v .out) (w .out)) i;
+        })
+
+pub has-time : (b : Bool) (t : TdmaTime) → Rule.hasTime (cond b (some t) none) ≡ b
+has-time true t = refl
+has-time false t = refl
+
+-- The first pass.
+module _ (store : List ℕ) where
+  abbrev handed : Entry → Record
+  handed e = acknowledged (sentIn store e)
+
+  abbrev viewed₁ : Visit (List ReceiptPlace) Entry Entry → Visit (List Place) Message Record
+  viewed₁ v = viewed (map placeIn) (messageIn store) handed v
+
+  timed-in : (time : TdmaTime) (ps : List ReceiptPlace) (e : Entry) → Step.timed time (map placeIn ps) (messageIn store e) ≡ messageIn store (timed time ps e)
+  unfolding messageIn sentIn frameIn
+  timed-in time ps e =
+      let test : Bool =
+      not (e .«has_umac_done») && (placeOf ps (e .receipt) .taken && reported (placeOf ps (e .receipt) .receipt))
+      in
+      ap₂ (λ (x y : Bool). cond (not x && y) (Rule.doneAt time (messageIn store e)) (messageIn store e))
+      (has-time (e .«has_umac_done») (e .«t_umac_done»)) (sym (taken-in reported ps (e .receipt)))
+      ∙ sym (ap-cond (messageIn store) test (doneAt time e) e)
+
+  stay-in : (ps : List ReceiptPlace) (e : Entry) → Step.stay (map placeIn ps) (messageIn store e) ≡ viewed₁ (stay ps e)
+  stay-in ps e = refl
+
+  resend-in : (ps : List ReceiptPlace) (e : Entry) → Step.resend (map placeIn ps) (messageIn store e) ≡ viewed₁ (resend ps e)
+  unfolding messageIn sentIn frameIn
+  resend-in ps e =
+      λ i.
+      record {
+        state = sym (mark-in Pending (e .receipt) ps) i;
+        stays = messageIn store (submitted (sym (add-one (e .«retransmit_count»)) i) e) ∷ [];
+        out = handed e ∷ [];
+      }
+
+  leave-in : (ps : List ReceiptPlace) (e : Entry) → Step.leave (map placeIn ps) (messageIn store e) ≡ viewed₁ (leave ps e)
+  unfolding messageIn sentIn frameIn
+  leave-in ps e =
+      let test : Bool = placeOf ps (e .receipt) .taken && is Transmitted (placeOf ps (e .receipt) .receipt) in
+      let places =
+      ap₂ (λ (x : Bool) (qs : List Place). cond x qs (map placeIn ps)) (sym (taken-in (is Transmitted) ps (e .receipt))) (sym (mark-in Lost (e .receipt) ps))
+      ∙ sym (ap-cond (map placeIn) test (mark Lost (e .receipt) ps) ps)
+      in
+      λ i. record { state = places i; stays = []; out = [] }
+
+  aged-by :
+      (time : TdmaTime) (t251 : ℕ) (ps : List Place) (m : Message) (b : Bool) (t : TdmaTime)
+      → Step.agedBy time t251 ps m (cond b (some t) none)
+      ≡ cond (b && overdue time t251 t) (cond (ltb (m .resends) 3) (Step.resend ps m) (Step.leave ps m)) (Step.stay ps m)
+  aged-by time t251 ps m true t = refl
+  aged-by time t251 ps m false t = refl
+
+  aged-in :
+      (time : TdmaTime) (t251 : ℕ) (ps : List ReceiptPlace) (e : Entry)
+      → Step.agedBy time t251 (map placeIn ps) (messageIn store e) (messageIn store e .done) ≡ viewed₁ (aged time t251 ps e)
+  unfolding messageIn
+  aged-in time t251 ps e =
+      let due : Bool = e .«has_umac_done» && overdue time t251 (e .«t_umac_done») in
+      let more : Bool = ltb (e .«retransmit_count») 3 in
+      aged-by time t251 (map placeIn ps) (messageIn store e) (e .«has_umac_done») (e .«t_umac_done»)
+      ∙ ap₂ (cond due)
+      (ap₂ (cond more) (resend-in ps e) (leave-in ps e) ∙ sym (ap-cond viewed₁ more (resend ps e) (leave ps e)))
+      (stay-in ps e)
+      ∙ sym (ap-cond viewed₁ due (cond more (resend ps e) (leave ps e)) (stay ps e))
+
+  retransmission-in :
+      (time : TdmaTime) (t251 : ℕ) (ps : List ReceiptPlace) (e : Entry)
+      → Step.retransmission time t251 (map placeIn ps) (messageIn store e) ≡ viewed₁ (retransmission time t251 ps e)
+  unfolding Step.retransmission retransmission
+  retransmission-in time t251 ps e =
+      ap (λ (m : Message). Step.agedBy time t251 (map placeIn ps) m (m .done)) (timed-in time ps e)
+      ∙ aged-in time t251 ps (timed time ps e)
+
+  -- The second pass.
+  abbrev sendingIn : Sending → Step.Sending
+  sendingIn s = record { receipts = map placeIn (s .receipts); blocked = s .blocked }
+
+  abbrev viewed₂ : Visit Sending Entry Entry → Visit Step.Sending Message Record
+  viewed₂ v = viewed sendingIn (messageIn store) handed v
+
+  first-in : (s : Sending) (e : Entry) → Step.firstSending (sendingIn s) (messageIn store e) ≡ viewed₂ (firstSending s e)
+  unfolding Step.firstSending firstSending messageIn sentIn frameIn
+  first-in s e =
+      let going : Visit Sending Entry Entry = stay (record { receipts = s .receipts; blocked = e .ssi ∷ s .blocked }) e in
+      let sending : Visit Sending Entry Entry =
+      record {
+        state = record { receipts = mark Pending (e .receipt) (s .receipts); blocked = e .ssi ∷ s .blocked };
+        stays = submitted (e .«retransmit_count») e ∷ [];
+        out = e ∷ [];
+      }
+      in
+      let test : Bool = among (e .ssi) (s .blocked) in
+      let sending-in : Visit Step.Sending Message Record =
+      record {
+        state = record { receipts = Rule.mark Pending (e .receipt) (map placeIn (s .receipts)); blocked = e .ssi ∷ s .blocked };
+        stays = messageIn store (submitted (e .«retransmit_count») e) ∷ [];
+        out = handed e ∷ [];
+      }
+      in
+      let sent : sending-in ≡ viewed₂ sending =
+      λ i.
+      record {
+        state = record { receipts = sym (mark-in Pending (e .receipt) (s .receipts)) i; blocked = e .ssi ∷ s .blocked };
+        stays = messageIn store (submitted (e .«retransmit_count») e) ∷ [];
+        out = handed e ∷ [];
+      }
+      in
+      ap₂ (cond (e .«submitted_to_umac»)) refl
+      (ap₂ (cond test) refl sent ∙ sym (ap-cond viewed₂ test (stay s e) sending))
+      ∙ sym (ap-cond viewed₂ (e .«submitted_to_umac») going (cond test (stay s e) sending))
+
+  -- The two passes of a state.
+  retransmissions-in : (s : State) → Step.retransmissions (linkIn s store) ≡ viewed₁ (retransmissions s)
+  unfolding Step.retransmissions retransmissions linkIn
+  retransmissions-in s =
+      walk-viewed (map placeIn) (messageIn store) handed (retransmission (s .dltime) (s .t251)) (Step.retransmission (s .dltime) (s .t251))
+      (retransmission-in (s .dltime) (s .t251)) (s .receipts) (messagesOf s)
+
+  first-sendings-in : (s : State) → Step.firstSendings (linkIn s store) ≡ viewed₂ (firstSendings s)
+  unfolding Step.firstSendings firstSendings
+  first-sendings-in s =
+      ap
+      (λ (v : Visit (List Place) Message Record). walk Step.firstSending (record { receipts = v .state; blocked = [] }) (v .stays))
+      (retransmissions-in s)
+      ∙ walk-viewed sendingIn (messageIn store) handed firstSending Step.firstSending first-in
+      (record { receipts = retransmissions s .state; blocked = [] }) (retransmissions s .stays)
+
+  -- The whole tick end.
+  pub ticked-in : (s : State) → linkIn (ticked s) store ≡ Step.onTickEnd (linkIn s store) .state
+  unfolding ticked Step.onTickEnd linkIn
+  ticked-in s =
+      let v = first-sendings-in s in
+      relaid-in s store (firstSendings s .stays) [] [] (firstSendings s .state .receipts) (rowsOf s)
+      ∙ (λ i.
+      Link.withQueues (linkIn s store)
+      (sym (ap (λ (x : Visit Step.Sending Message Record). x .stays) v) i)
+      []
+      []
+      (sym (ap (λ (x : Visit Step.Sending Message Record). x .state .receipts) v) i)
+      (map rowIn (rowsOf s)))
+
+  pub records-in : (s : State) → tickRecords s store ≡ Step.onTickEnd (linkIn s store) .records
+  unfolding tickRecords Step.onTickEnd linkIn
+  records-in s =
+      ap₂ _++_ (sym (ap (λ (x : Visit (List Place) Message Record). x .out) (retransmissions-in s)))
+      (ap₂ _++_ (sym (ap (λ (x : Visit Step.Sending Message Record). x .out) (first-sendings-in s)))
+      (ap₂ _++_
+      (sym (map-map dueIn replyTo (acksOf s)))
+      (sym (map-map (sentIn store) unacknowledged (udataOf s)))))

@@ -1,0 +1,209 @@
+-- The calls on the entries: what `step` does on the link that a state and a store hold, and where it lies afterwards.
+use Prim.Native.Nat.{ℕ, _-_}
+use mathlib.Core.Bool.{Bool, true, false, cond, not, _&&_, _||_, Bool·beq}
+use mathlib.Core.List.{List, [], _∷_, _++_}
+use mathlib.Core.Option.{Option, none, some}
+use lib.Dec.{eqb, ltb}
+use lib.ListN.{length, set, replicate}
+use Rattle.bits.specs.Bits.{splice}
+use Rattle.questions.specs.Outcome.{Outcome, accepted, refused, ask}
+use Rattle.tdma_time.specs.Slots.{first}
+use Rattle.tx_receipt.specs.States.{is, final}
+use Rattle.tx_receipt.specs.declared.TxState.the-variants.{Pending, Discarded, Transmitted, Acknowledged}
+use Rattle.llc_pdus.specs.Headers.{header}
+use Rattle.llc_pdus.specs.declared.Pdu.{Pdu}
+use Rattle.llc_pdus.specs.declared.Pdu.the-variants.{BlAdata, BlData, BlUdata, BlAck}
+use Rattle.llc_rule.specs.Lists as Lists
+use Rattle.llc_rule.specs.Lists.{any, Found, nothing, find, others}
+use Rattle.llc_rule.specs.Calls.{Request, Frame}
+use Rattle.llc_rule.specs.Ranges.{steals, wantsFcs, hasMask}
+use Rattle.llc_rule.specs.Received.{Received, nsOf, nrOf, upward}
+use Rattle.llc_rule.specs.Messages.{carrierOf, slotBefore}
+use Rattle.llc_rule.specs.Step.{onAcknowledgedPath}
+use Rattle.llc_state.specs.States.{noReceipt}
+use Rattle.llc_state.specs.Receipts.{pendingPlace, placeOf, mark}
+use Rattle.llc_state.specs.View.{placeBit}
+use Rattle.llc_state.specs.declared.Entry.{Entry}
+use Rattle.llc_state.specs.declared.ScheduledOutAck.{ScheduledOutAck}
+use Rattle.llc_state.specs.declared.ReceiptPlace.{ReceiptPlace}
+use Rattle.llc_state.specs.declared.LinkSendSeq.{LinkSendSeq}
+use Rattle.llc_state.specs.declared.State.{State}
+use Rattle.llc_steps.specs.States.{messagesOf, udataOf, acksOf, rowsOf, relaid, Kept, kept}
+use Rattle.llc_steps.specs.Places.{freePlace}
+
+-- Requests ----------------------------------------------------------------------------------------------------------------
+
+-- A new entry: its carrier, link id and place in the store, how many bits its frame has, its N(S).
+unfoldable pub entryOf : Request → ℕ → ℕ → ℕ → ℕ → Bool → Entry
+entryOf r carrier link place len ns =
+    record {
+      ssi = r .ssi;
+      «ssi_type» = r .type;
+      «carrier_num» = carrier;
+      «link_id» = link;
+      «endpoint_id» = r .endpoint;
+      «req_handle» = r .handle;
+      «stealing_permission» = steals r;
+      «has_mask» = hasMask r;
+      mask = r .mask;
+      receipt = r .receipt;
+      «block_len» = length (r .block);
+      block = r .block ++ replicate (64 - length (r .block)) 0;
+      place = place;
+      len = len;
+      ns = ns;
+      «submitted_to_umac» = false;
+      «has_umac_done» = false;
+      «t_umac_done» = first;
+      «retransmit_count» = 0;
+    }
+
+abbrev pub carrierFor : Request → State → ℕ
+carrierFor r s = carrierOf (s .«main_carrier») r
+
+-- get_out_ack_seq_if_any
+unfoldable pub ackFor : Request → State → Found ScheduledOutAck
+ackFor r s = find (λ (d : ScheduledOutAck). eqb (d .ssi) (r .ssi) && eqb (d .«carrier_num») (carrierFor r s)) (acksOf s)
+
+-- get_next_send_seq: the bit of an SSI, and the rows with another.
+unfoldable pub seqOf : ℕ → List LinkSendSeq → Bool
+seqOf a [] = false
+seqOf a (r ∷ rs) = cond (eqb (r .ssi) a) (r .vs) (seqOf a rs)
+
+unfoldable pub withSeq : ℕ → Bool → List LinkSendSeq → List LinkSendSeq
+withSeq a b [] = record { ssi = a; vs = b } ∷ []
+withSeq a b (r ∷ rs) = cond (eqb (r .ssi) a) (record { ssi = a; vs = b } ∷ rs) (r ∷ withSeq a b rs)
+
+abbrev pub dataPdu : Request → Bool → Found ScheduledOutAck → Pdu
+dataPdu r ns (Lists.first d ds) = BlAdata (wantsFcs r) (d .nr) ns
+dataPdu r ns nothing = BlData (wantsFcs r) ns
+
+-- A message put last, its frame in the first free place of the store.
+unfoldable pub withAcknowledged : Request → State → List ℕ → Kept
+withAcknowledged r s b =
+    let ns = seqOf (r .ssi) (rowsOf s) in
+    let pdu = header (dataPdu r ns (ackFor r s)) ++ r .sdu in
+    kept
+    (relaid s
+    (messagesOf s ++ (entryOf r (carrierFor r s) 0 (freePlace s) (length pdu) ns ∷ []))
+    (udataOf s)
+    (others (ackFor r s) (acksOf s))
+    (set (s .receipts) (r .receipt) (pendingPlace true))
+    (withSeq (r .ssi) (not ns) (rowsOf s)))
+    (splice b (placeBit (freePlace s)) pdu)
+    []
+
+unfoldable pub withUnacknowledged : Request → ℕ → Pdu → List ScheduledOutAck → State → List ℕ → Kept
+withUnacknowledged r link p ds s b =
+    let pdu = header p ++ r .sdu in
+    kept
+    (relaid s
+    (messagesOf s)
+    (udataOf s ++ (entryOf r (carrierFor r s) link (freePlace s) (length pdu) false ∷ []))
+    ds
+    (set (s .receipts) (r .receipt) (pendingPlace false))
+    (rowsOf s))
+    (splice b (placeBit (freePlace s)) pdu)
+    []
+
+unfoldable pub withStolen : Request → State → List ℕ → Found ScheduledOutAck → Kept
+withStolen r s b (Lists.first d ds) = withUnacknowledged r (r .link) (BlAck (wantsFcs r) (d .nr)) ds s b
+withStolen r s b nothing = withUnacknowledged r 0 (BlUdata false) (acksOf s) s b
+
+-- Questions 6, 7 and 8.
+abbrev pub receiptFree : Request → State → Bool
+receiptFree r s = not (placeOf (s .receipts) (r .receipt) .taken)
+
+unfoldable pub rowFor : Request → State → Bool
+rowFor r s = any (λ (w : LinkSendSeq). eqb (w .ssi) (r .ssi)) (rowsOf s) || ltb (s .«n_rows») 256
+
+unfoldable pub onData : Request → State → List ℕ → Outcome Kept
+onData r s b =
+    ask 6 (receiptFree r s)
+    (cond (onAcknowledgedPath r)
+    (ask 7 (rowFor r s) (ask 8 (ltb (s .«n_messages») 64) (accepted (withAcknowledged r s b))))
+    (ask 8 (ltb (s .«n_udata») 32)
+    (accepted (cond (steals r) (withStolen r s b (ackFor r s)) (withStolen r s b nothing)))))
+
+unfoldable pub onUnitdata : Request → State → List ℕ → Outcome Kept
+onUnitdata r s b =
+    ask 6 (receiptFree r s)
+    (ask 8 (ltb (s .«n_udata») 32) (accepted (withUnacknowledged r (r .link) (BlUdata false) (acksOf s) s b)))
+
+-- Frames ------------------------------------------------------------------------------------------------------------------
+
+abbrev pub ackRoom : Option Bool → State → Bool
+ackRoom none s = true
+ackRoom (some ns) s = ltb (s .«n_acks») 64
+
+-- schedule_outgoing_ack
+abbrev pub scheduled : Frame → Option Bool → State → List ScheduledOutAck
+scheduled f none s = acksOf s
+scheduled f (some ns) s =
+    acksOf s
+    ++ (record { ssi = f .ssi; «ssi_type» = f .type; «carrier_num» = f .carrier; nr = ns; ts = slotBefore (s .dltime) } ∷ [])
+
+-- take_expected_ack_for_ssi
+unfoldable pub expected : Frame → State → Found Entry
+expected f s =
+    find
+    (λ (e : Entry). eqb (e .ssi) (f .ssi) && (eqb (e .«carrier_num») (f .carrier) && e .«submitted_to_umac»))
+    (messagesOf s)
+
+abbrev pub fits : Bool → Entry → Bool
+fits nr e = e .«has_umac_done» && Bool·beq (e .ns) nr
+
+-- Question 14.
+abbrev pub finishable : Bool → Found Entry → State → Bool
+finishable nr nothing s = true
+finishable nr (Lists.first e es) s =
+    not (fits nr e) || (placeOf (s .receipts) (e .receipt) .taken && is Transmitted (placeOf (s .receipts) (e .receipt) .receipt))
+
+abbrev pub mayFinish : Frame → Option Bool → State → Bool
+mayFinish f none s = true
+mayFinish f (some nr) s = finishable nr (expected f s) s
+
+-- process_incoming_ack
+unfoldable pub answeredBy : Bool → Found Entry → List ScheduledOutAck → State → State
+answeredBy nr nothing ds s = relaid s (messagesOf s) (udataOf s) ds (s .receipts) (rowsOf s)
+answeredBy nr (Lists.first e es) ds s =
+    cond (fits nr e)
+    (relaid s es (udataOf s) ds (mark Acknowledged (e .receipt) (s .receipts)) (rowsOf s))
+    (relaid s (e ∷ es) (udataOf s) ds (s .receipts) (rowsOf s))
+
+abbrev pub answered : Frame → Option Bool → List ScheduledOutAck → State → State
+answered f none ds s = relaid s (messagesOf s) (udataOf s) ds (s .receipts) (rowsOf s)
+answered f (some nr) ds s = answeredBy nr (expected f s) ds s
+
+unfoldable pub onReceived : Frame → Outcome Received → State → List ℕ → Outcome Kept
+onReceived f (refused n) s b = refused n
+onReceived f (accepted r) s b =
+    ask 13 (ackRoom (nsOf (r .header)) s)
+    (ask 14 (mayFinish f (nrOf (r .header)) s)
+    (accepted
+    (kept (answered f (nrOf (r .header)) (scheduled f (nsOf (r .header)) s) s) b (upward f (r .header) (r .sdu)))))
+
+-- Reports and releases ----------------------------------------------------------------------------------------------------
+
+unfoldable pub held : ℕ → State → Bool
+held i s = any (λ (e : Entry). eqb (e .receipt) i) (messagesOf s) || any (λ (e : Entry). eqb (e .receipt) i) (udataOf s)
+
+unfoldable pub waits : ℕ → State → Bool
+waits i s =
+    any (λ (e : Entry). eqb (e .receipt) i && not (e .«submitted_to_umac»)) (messagesOf s)
+    || any (λ (e : Entry). eqb (e .receipt) i) (udataOf s)
+
+-- A state with other receipts.
+abbrev pub withReceipts : State → List ReceiptPlace → State
+withReceipts s ps = relaid s (messagesOf s) (udataOf s) (acksOf s) ps (rowsOf s)
+
+unfoldable pub onReport : ℕ → ℕ → State → List ℕ → Outcome Kept
+onReport i how s b =
+    ask 15 (placeOf (s .receipts) i .taken && is Pending (placeOf (s .receipts) i .receipt) && not (waits i s))
+    (accepted
+    (kept (withReceipts s (cond (eqb how 1) (mark Transmitted i (s .receipts)) (mark Discarded i (s .receipts)))) b []))
+
+unfoldable pub onRelease : ℕ → State → List ℕ → Outcome Kept
+onRelease i s b =
+    ask 16 (placeOf (s .receipts) i .taken && final (placeOf (s .receipts) i .receipt) && not (held i s))
+    (accepted (kept (withReceipts s (set (s .receipts) i noReceipt)) b []))

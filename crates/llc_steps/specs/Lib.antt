@@ -1,0 +1,10 @@
+pub mod Arrays
+pub mod States
+pub mod Queues
+pub mod TickEnd
+pub mod Places
+pub mod Calls
+pub mod Steps
+pub mod Holds
+pub mod Answers
+pub mod Sane

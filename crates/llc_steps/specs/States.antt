@@ -1,0 +1,126 @@
+-- What of a state's arrays is in use, and a state with other elements in use.
+use Prim.Native.Nat.{ℕ}
+use mathlib.Core.List.{List}
+use lib.ListN.{length, take}
+use Rattle.llc_rule.specs.Records.{Record}
+use Rattle.llc_state.specs.declared.Entry.{Entry}
+use Rattle.llc_state.specs.declared.ScheduledOutAck.{ScheduledOutAck}
+use Rattle.llc_state.specs.declared.ReceiptPlace.{ReceiptPlace}
+use Rattle.llc_state.specs.declared.LinkSendSeq.{LinkSendSeq}
+use Rattle.llc_state.specs.declared.State.{State}
+use Rattle.llc_state.specs.States.{noEntry, noAck, noRow}
+use Rattle.llc_steps.specs.Arrays.{laid}
+
+-- What of the arrays is in use.
+abbrev pub messagesOf : State → List Entry
+messagesOf s = take (s .«n_messages») (s .«outbound_messages»)
+
+abbrev pub udataOf : State → List Entry
+udataOf s = take (s .«n_udata») (s .«outbound_udata_messages»)
+
+abbrev pub acksOf : State → List ScheduledOutAck
+acksOf s = take (s .«n_acks») (s .«scheduled_out_acks»)
+
+abbrev pub rowsOf : State → List LinkSendSeq
+rowsOf s = take (s .«n_rows») (s .«link_send_seq»)
+
+-- A state with other messages in use, other unacknowledged ones, other acknowledgements due, other rows.
+abbrev pub withMessages : State → List Entry → State
+withMessages s ms =
+    record {
+      started = s .started;
+      «main_carrier» = s .«main_carrier»;
+      t251 = s .t251;
+      dltime = s .dltime;
+      «n_messages» = length ms;
+      «outbound_messages» = laid noEntry (s .«n_messages») ms (s .«outbound_messages»);
+      «n_udata» = s .«n_udata»;
+      «outbound_udata_messages» = s .«outbound_udata_messages»;
+      «n_acks» = s .«n_acks»;
+      «scheduled_out_acks» = s .«scheduled_out_acks»;
+      receipts = s .receipts;
+      «n_rows» = s .«n_rows»;
+      «link_send_seq» = s .«link_send_seq»;
+    }
+
+abbrev pub withUdata : State → List Entry → State
+withUdata s us =
+    record {
+      started = s .started;
+      «main_carrier» = s .«main_carrier»;
+      t251 = s .t251;
+      dltime = s .dltime;
+      «n_messages» = s .«n_messages»;
+      «outbound_messages» = s .«outbound_messages»;
+      «n_udata» = length us;
+      «outbound_udata_messages» = laid noEntry (s .«n_udata») us (s .«outbound_udata_messages»);
+      «n_acks» = s .«n_acks»;
+      «scheduled_out_acks» = s .«scheduled_out_acks»;
+      receipts = s .receipts;
+      «n_rows» = s .«n_rows»;
+      «link_send_seq» = s .«link_send_seq»;
+    }
+
+abbrev pub withAcks : State → List ScheduledOutAck → State
+withAcks s ds =
+    record {
+      started = s .started;
+      «main_carrier» = s .«main_carrier»;
+      t251 = s .t251;
+      dltime = s .dltime;
+      «n_messages» = s .«n_messages»;
+      «outbound_messages» = s .«outbound_messages»;
+      «n_udata» = s .«n_udata»;
+      «outbound_udata_messages» = s .«outbound_udata_messages»;
+      «n_acks» = length ds;
+      «scheduled_out_acks» = laid noAck (s .«n_acks») ds (s .«scheduled_out_acks»);
+      receipts = s .receipts;
+      «n_rows» = s .«n_rows»;
+      «link_send_seq» = s .«link_send_seq»;
+    }
+
+abbrev pub withRows : State → List LinkSendSeq → State
+withRows s rs =
+    record {
+      started = s .started;
+      «main_carrier» = s .«main_carrier»;
+      t251 = s .t251;
+      dltime = s .dltime;
+      «n_messages» = s .«n_messages»;
+      «outbound_messages» = s .«outbound_messages»;
+      «n_udata» = s .«n_udata»;
+      «outbound_udata_messages» = s .«outbound_udata_messages»;
+      «n_acks» = s .«n_acks»;
+      «scheduled_out_acks» = s .«scheduled_out_acks»;
+      receipts = s .receipts;
+      «n_rows» = length rs;
+      «link_send_seq» = laid noRow (s .«n_rows») rs (s .«link_send_seq»);
+    }
+
+-- All of these at once, and other receipts.
+unfoldable pub relaid : State → List Entry → List Entry → List ScheduledOutAck → List ReceiptPlace → List LinkSendSeq → State
+relaid s ms us ds ps rs =
+    record {
+      started = s .started;
+      «main_carrier» = s .«main_carrier»;
+      t251 = s .t251;
+      dltime = s .dltime;
+      «n_messages» = length ms;
+      «outbound_messages» = laid noEntry (s .«n_messages») ms (s .«outbound_messages»);
+      «n_udata» = length us;
+      «outbound_udata_messages» = laid noEntry (s .«n_udata») us (s .«outbound_udata_messages»);
+      «n_acks» = length ds;
+      «scheduled_out_acks» = laid noAck (s .«n_acks») ds (s .«scheduled_out_acks»);
+      receipts = ps;
+      «n_rows» = length rs;
+      «link_send_seq» = laid noRow (s .«n_rows») rs (s .«link_send_seq»);
+    }
+
+-- What an accepted call leaves: the state, the bits of the store, and the records that it gives.
+pub record Kept : Type 0 where
+  pub state : State
+  pub store : List ℕ
+  pub records : List Record
+
+abbrev pub kept : State → List ℕ → List Record → Kept
+kept s b rs = record { state = s; store = b; records = rs }

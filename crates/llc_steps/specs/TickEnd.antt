@@ -1,0 +1,135 @@
+-- A tick end on the entries: the passes of `step` with entries in place of messages, and where everything lies afterwards.
+use Prim.Native.Nat.{ℕ, _+_}
+use mathlib.Core.Bool.{true, false, cond, not, _&&_}
+use mathlib.Core.List.{List, [], _∷_, _++_, map}
+use lib.Dec.{ltb}
+use Rattle.tdma_time.specs.declared.TdmaTime.{TdmaTime}
+use Rattle.tx_receipt.specs.States.{is}
+use Rattle.tx_receipt.specs.declared.TxState.the-variants.{Pending, Transmitted, Lost}
+use Rattle.llc_rule.specs.Lists.{among, Visit, walk}
+use Rattle.llc_rule.specs.Records.{Record, acknowledged, unacknowledged}
+use Rattle.llc_rule.specs.Messages.{overdue, reported, replyTo}
+use Rattle.llc_state.specs.Receipts.{placeOf, mark}
+use Rattle.llc_state.specs.View.{sentIn, dueIn}
+use Rattle.llc_state.specs.declared.Entry.{Entry}
+use Rattle.llc_state.specs.declared.ScheduledOutAck.{ScheduledOutAck}
+use Rattle.llc_state.specs.declared.ReceiptPlace.{ReceiptPlace}
+use Rattle.llc_state.specs.declared.State.{State}
+use Rattle.llc_steps.specs.States.{messagesOf, udataOf, acksOf, rowsOf, relaid}
+
+-- An entry as passed down after so many retransmissions, and with its done time.
+abbrev pub submitted : ℕ → Entry → Entry
+submitted k e =
+    record {
+      ssi = e .ssi;
+      «ssi_type» = e .«ssi_type»;
+      «carrier_num» = e .«carrier_num»;
+      «link_id» = e .«link_id»;
+      «endpoint_id» = e .«endpoint_id»;
+      «req_handle» = e .«req_handle»;
+      «stealing_permission» = e .«stealing_permission»;
+      «has_mask» = e .«has_mask»;
+      mask = e .mask;
+      receipt = e .receipt;
+      «block_len» = e .«block_len»;
+      block = e .block;
+      place = e .place;
+      len = e .len;
+      ns = e .ns;
+      «submitted_to_umac» = true;
+      «has_umac_done» = false;
+      «t_umac_done» = e .«t_umac_done»;
+      «retransmit_count» = k;
+    }
+
+abbrev pub doneAt : TdmaTime → Entry → Entry
+doneAt t e =
+    record {
+      ssi = e .ssi;
+      «ssi_type» = e .«ssi_type»;
+      «carrier_num» = e .«carrier_num»;
+      «link_id» = e .«link_id»;
+      «endpoint_id» = e .«endpoint_id»;
+      «req_handle» = e .«req_handle»;
+      «stealing_permission» = e .«stealing_permission»;
+      «has_mask» = e .«has_mask»;
+      mask = e .mask;
+      receipt = e .receipt;
+      «block_len» = e .«block_len»;
+      block = e .block;
+      place = e .place;
+      len = e .len;
+      ns = e .ns;
+      «submitted_to_umac» = e .«submitted_to_umac»;
+      «has_umac_done» = true;
+      «t_umac_done» = t;
+      «retransmit_count» = e .«retransmit_count»;
+    }
+
+-- One message of the first pass, submit_retransmissions_to_umac.
+abbrev pub timed : TdmaTime → List ReceiptPlace → Entry → Entry
+timed time ps e =
+    cond
+    (not (e .«has_umac_done») && (placeOf ps (e .receipt) .taken && reported (placeOf ps (e .receipt) .receipt)))
+    (doneAt time e)
+    e
+
+abbrev pub stay : {S : Type 0} → S → Entry → Visit S Entry Entry
+stay s e = record { state = s; stays = e ∷ []; out = [] }
+
+abbrev pub resend : List ReceiptPlace → Entry → Visit (List ReceiptPlace) Entry Entry
+resend ps e =
+    record { state = mark Pending (e .receipt) ps; stays = submitted (e .«retransmit_count» + 1) e ∷ []; out = e ∷ [] }
+
+abbrev pub leave : List ReceiptPlace → Entry → Visit (List ReceiptPlace) Entry Entry
+leave ps e =
+    record {
+      state =
+          cond (placeOf ps (e .receipt) .taken && is Transmitted (placeOf ps (e .receipt) .receipt)) (mark Lost (e .receipt) ps) ps;
+      stays = [];
+      out = [];
+    }
+
+abbrev pub aged : TdmaTime → ℕ → List ReceiptPlace → Entry → Visit (List ReceiptPlace) Entry Entry
+aged time t251 ps e =
+    cond (e .«has_umac_done» && overdue time t251 (e .«t_umac_done»))
+    (cond (ltb (e .«retransmit_count») 3) (resend ps e) (leave ps e))
+    (stay ps e)
+
+unfoldable pub retransmission : TdmaTime → ℕ → List ReceiptPlace → Entry → Visit (List ReceiptPlace) Entry Entry
+retransmission time t251 ps e = aged time t251 ps (timed time ps e)
+
+-- One message of the second, submit_free_messages_to_umac: the receipts, and the SSIs that are blocked.
+pub record Sending : Type 0 where
+  pub receipts : List ReceiptPlace
+  pub blocked : List ℕ
+
+unfoldable pub firstSending : Sending → Entry → Visit Sending Entry Entry
+firstSending s e =
+    cond (e .«submitted_to_umac»)
+    (stay (record { receipts = s .receipts; blocked = e .ssi ∷ s .blocked }) e)
+    (cond (among (e .ssi) (s .blocked))
+    (stay s e)
+    (record {
+      state = record { receipts = mark Pending (e .receipt) (s .receipts); blocked = e .ssi ∷ s .blocked };
+      stays = submitted (e .«retransmit_count») e ∷ [];
+      out = e ∷ [];
+    }))
+
+unfoldable pub retransmissions : State → Visit (List ReceiptPlace) Entry Entry
+retransmissions s = walk (retransmission (s .dltime) (s .t251)) (s .receipts) (messagesOf s)
+
+unfoldable pub firstSendings : State → Visit Sending Entry Entry
+firstSendings s = walk firstSending (record { receipts = retransmissions s .state; blocked = [] }) (retransmissions s .stays)
+
+-- The state after a tick end: what stays, and the other two queues empty.
+unfoldable pub ticked : State → State
+ticked s = relaid s (firstSendings s .stays) [] [] (firstSendings s .state .receipts) (rowsOf s)
+
+-- And its records: each message as the store has it.
+unfoldable pub tickRecords : State → List ℕ → List Record
+tickRecords s store =
+    map (λ (e : Entry). acknowledged (sentIn store e)) (retransmissions s .out)
+    ++ (map (λ (e : Entry). acknowledged (sentIn store e)) (firstSendings s .out)
+    ++ (map (λ (d : ScheduledOutAck). replyTo (dueIn d)) (acksOf s)
+    ++ map (λ (e : Entry). unacknowledged (sentIn store e)) (udataOf s)))

@@ -1,0 +1,16 @@
+pub mod Blocked
+pub mod Clearing
+pub mod Compacting
+pub mod Entries
+pub mod FreeMessages
+pub mod GivenUp
+pub mod Handing
+pub mod InPlace
+pub mod Overdue
+pub mod Retransmitting
+pub mod Room
+pub mod Sendings
+pub mod SentBytes
+pub mod Stays
+pub mod Walking
+pub mod Whole

@@ -1,0 +1,129 @@
+-- The entries that stay after a pass: no more than before, and in range if those before it were.
+use Prim.Native.Nat.{ℕ, _+_, _≤_}
+use native.Mathlib.Omega.{arith}
+use mathlib.Core.Path.{_≡_, refl}
+use mathlib.Core.Bool.{Bool, true, not, _&&_}
+use mathlib.Core.List.{List, [], _∷_, _++_}
+use borrow.Author.Tests.{ltb-true, le-leb}
+use lib.Dec.{leb, ltb}
+use lib.ListN.{length, length-append}
+use Rattle.tdma_time.specs.Slots.{valid}
+use Rattle.tdma_time.specs.declared.TdmaTime.{TdmaTime}
+use Rattle.llc_rule.specs.Lists.{all, among, Visit, walk}
+use Rattle.llc_rule.specs.Messages.{overdue, reported}
+use Rattle.llc_rule.proofs.Lists.{both, and-true, by-choice, either}
+use Rattle.llc_state.specs.Ranges.{entryInRange, inRange}
+use Rattle.llc_state.specs.Receipts.{placeOf}
+use Rattle.llc_state.specs.declared.Entry.{Entry}
+use Rattle.llc_state.specs.declared.ReceiptPlace.{ReceiptPlace}
+use Rattle.llc_state.specs.declared.State.{State}
+use Rattle.llc_state.proofs.InRange.{range-tells}
+use Rattle.llc_steps.specs.States.{messagesOf}
+use Rattle.llc_steps.specs.TickEnd.{submitted, doneAt, timed, retransmission, Sending, firstSending, retransmissions, firstSendings}
+use Rattle.llc_tick_end.proofs.Entries.{lasting}
+
+-- A walk ------------------------------------------------------------------------------------------------------------------
+
+all-append : {A : Type 0} (p : A → Bool) (l m : List A) → all p l ≡ true → all p m ≡ true → all p (l ++ m) ≡ true
+unfolding all
+all-append p [] m h k = k
+all-append p (x ∷ l) m h k =
+    let t = both {x = p x} {y = all p l} h in
+    and-true (t .0) (all-append p l m (t .1) k)
+
+module _ {S A R : Type 0} (f : S → A → Visit S A R) where
+  -- No more stay than there were, if at most one stays of each visit.
+  few-stay : ((s : S) (x : A) → length (f s x .stays) ≤ 1) → (s : S) (l : List A) → length (walk f s l .stays) ≤ length l
+  unfolding walk
+  few-stay h s [] = omega arith
+  few-stay h s (x ∷ l) =
+      let rest = few-stay h (f s x .state) l in
+      rw (length-append (f s x .stays) (walk f (f s x .state) l .stays)) (omega (arith, h s x))
+
+  -- Those that stay pass a test, if it is so of each visit.
+  passing-stay :
+      (p : A → Bool)
+      → ((s : S) (x : A) → p x ≡ true → all p (f s x .stays) ≡ true)
+      → (s : S) (l : List A)
+      → all p l ≡ true
+      → all p (walk f s l .stays) ≡ true
+  unfolding walk all
+  passing-stay p h s [] a = refl
+  passing-stay p h s (x ∷ l) a =
+      let t = both {x = p x} {y = all p l} a in
+      all-append p (f s x .stays) (walk f (f s x .state) l .stays) (h s x (t .0)) (passing-stay p h (f s x .state) l (t .1))
+
+-- The first pass ----------------------------------------------------------------------------------------------------------
+
+-- How many stay of a visit, and are those in range?
+abbrev AtMostOne : {S : Type 0} → Visit S Entry Entry → Type 0
+AtMostOne v = length (v .stays) ≤ 1
+
+abbrev InRange : {S : Type 0} → Visit S Entry Entry → Type 0
+InRange v = all entryInRange (v .stays) ≡ true
+
+one-passes : {A : Type 0} (p : A → Bool) (x : A) → p x ≡ true → all p (x ∷ []) ≡ true
+unfolding all
+one-passes p x h = and-true h refl
+
+none-passes : {A : Type 0} (p : A → Bool) → all p [] ≡ true
+unfolding all
+none-passes p = refl
+
+done-in-range : (t : TdmaTime) (e : Entry) → valid t ≡ true → entryInRange e ≡ true → entryInRange (doneAt t e) ≡ true
+unfolding entryInRange
+done-in-range t e v h = and-true (both {x = lasting e && leb (e .«retransmit_count») 3} {y = valid (e .«t_umac_done»)} h .0) v
+
+submitted-in-range : (k : ℕ) (e : Entry) → k ≤ 3 → entryInRange e ≡ true → entryInRange (submitted k e) ≡ true
+unfolding entryInRange
+submitted-in-range k e few h =
+    let a = both {x = lasting e && leb (e .«retransmit_count») 3} {y = valid (e .«t_umac_done»)} h in
+    let b = both {x = lasting e} {y = leb (e .«retransmit_count») 3} (a .0) in
+    and-true (and-true (b .0) (le-leb k 3 few)) (a .1)
+
+module _ (time : TdmaTime) (t251 : ℕ) where
+  few-again : (ps : List ReceiptPlace) (e : Entry) → AtMostOne (retransmission time t251 ps e)
+  unfolding retransmission
+  few-again ps e =
+      let d = timed time ps e in
+      either AtMostOne (d .«has_umac_done» && overdue time t251 (d .«t_umac_done»))
+      (either AtMostOne (ltb (d .«retransmit_count») 3) (omega arith) (omega arith))
+      (omega arith)
+
+  timed-in-range : (ps : List ReceiptPlace) (e : Entry) → valid time ≡ true → entryInRange e ≡ true → entryInRange (timed time ps e) ≡ true
+  timed-in-range ps e v h =
+      either (λ (x : Entry). entryInRange x ≡ true)
+      (not (e .«has_umac_done») && (placeOf ps (e .receipt) .taken && reported (placeOf ps (e .receipt) .receipt)))
+      (done-in-range time e v h)
+      h
+
+  again-in-range : valid time ≡ true → (ps : List ReceiptPlace) (e : Entry) → entryInRange e ≡ true → InRange (retransmission time t251 ps e)
+  unfolding retransmission
+  again-in-range v ps e h =
+      let d = timed time ps e in
+      let k = timed-in-range ps e v h in
+      either InRange (d .«has_umac_done» && overdue time t251 (d .«t_umac_done»))
+      (by-choice InRange (ltb (d .«retransmit_count») 3)
+      (λ t. one-passes entryInRange _ (submitted-in-range (d .«retransmit_count» + 1) d (omega (arith, ltb-true (d .«retransmit_count») 3 t)) k))
+      (λ t. none-passes entryInRange))
+      (one-passes entryInRange d k)
+
+pub stays-few : (s : State) → length (retransmissions s .stays) ≤ length (messagesOf s)
+unfolding retransmissions
+stays-few s = few-stay (retransmission (s .dltime) (s .t251)) (few-again (s .dltime) (s .t251)) (s .receipts) (messagesOf s)
+
+pub stays-in-range : (s : State) → inRange s ≡ true → all entryInRange (retransmissions s .stays) ≡ true
+unfolding retransmissions
+stays-in-range s h =
+    let r = range-tells s h in
+    passing-stay (retransmission (s .dltime) (s .t251)) entryInRange (again-in-range (s .dltime) (s .t251) (r .head .time)) (s .receipts) (messagesOf s) (r .messages)
+
+-- The second pass ---------------------------------------------------------------------------------------------------------
+
+few-first : (s : Sending) (e : Entry) → AtMostOne (firstSending s e)
+unfolding firstSending
+few-first s e = either AtMostOne (e .«submitted_to_umac») (omega arith) (either AtMostOne (among (e .ssi) (s .blocked)) (omega arith) (omega arith))
+
+pub stays-few-too : (s : State) → length (firstSendings s .stays) ≤ length (retransmissions s .stays)
+unfolding firstSendings
+stays-few-too s = few-stay firstSending few-first (record { receipts = retransmissions s .state; blocked = [] }) (retransmissions s .stays)

@@ -1,0 +1,181 @@
+-- The four passes, one behind the other, are a tick end.
+use Prim.Native.Nat.{ℕ, _+_, _≤_}
+use native.Mathlib.Nat.{zero-add}
+use native.Mathlib.Omega.{arith}
+use mathlib.Core.Path.{_≡_, _∙_, sym, ap}
+use mathlib.Core.Bool.{true}
+use mathlib.Core.List.{List, [], _++_}
+use lib.ListN.{length, drop, length-append, length-take}
+use lib.Seq.{length-take-le}
+use Rattle.llc_rule.specs.Calls.{tickEnd}
+use Rattle.llc_rule.specs.Lists.{all, Visit, walk}
+use Rattle.llc_rule.specs.Records.{allBytes}
+use Rattle.llc_rule.proofs.Room.{allBytes-append}
+use Rattle.llc_records.specs.Wrote.{Wrote}
+use Rattle.llc_records.proofs.Wrote.{_⨾_, as-long, same-bytes, write-is}
+use Rattle.llc_state.specs.Ranges.{entryInRange, inRange}
+use Rattle.llc_state.specs.States.{noEntry, noAck, noRow}
+use Rattle.llc_state.specs.declared.Entry.{Entry}
+use Rattle.llc_state.specs.declared.State.{State}
+use Rattle.llc_state.proofs.InRange.{range-tells}
+use Rattle.llc_state.proofs.Lengths.{Lengths}
+use Rattle.llc_steps.specs.Answers.{effect, answer, laidOut, delivered}
+use Rattle.llc_steps.specs.Arrays.{laid}
+use Rattle.llc_steps.specs.States.{messagesOf, udataOf, acksOf, withUdata, withAcks, relaid}
+use Rattle.llc_steps.specs.Steps.{acts}
+use Rattle.llc_steps.specs.TickEnd.{Sending, firstSending, retransmissions, firstSendings, ticked, tickRecords}
+use Rattle.llc_steps.proofs.Relaid.{take-laid}
+use Rattle.llc_tick_end.specs.Passes.{sentBytesOf, replyBytesOf, udataBytesOf, afterRetransmissions, sendings, afterSendings}
+use Rattle.llc_steps.proofs.Laid.{laid-same, laid-again}
+use Rattle.llc_tick_end.proofs.Room.{tick-room}
+use Rattle.llc_tick_end.proofs.Stays.{stays-few, stays-in-range, stays-few-too}
+
+-- The second pass finds what the first one leaves.
+messages-left : (s : State) → messagesOf (afterRetransmissions s) ≡ retransmissions s .stays
+messages-left s = take-laid noEntry (s .«n_messages») (retransmissions s .stays) (s .«outbound_messages»)
+
+sendings-are : (s : State) → sendings (afterRetransmissions s) ≡ firstSendings s
+unfolding sendings firstSendings
+sendings-are s = ap (walk firstSending (record { receipts = retransmissions s .state; blocked = [] })) (messages-left s)
+
+-- The state that the passes and the two clears leave.
+passed-is :
+    (s : State)
+    → Lengths s
+    → inRange s ≡ true
+    → withUdata (withAcks (afterSendings (afterRetransmissions s)) []) [] ≡ ticked s
+unfolding ticked relaid
+passed-is s long h =
+    let v = sendings-are s in
+    let r = range-tells s h .head in
+    let ms : List Entry = retransmissions s .stays in
+    let few : length ms ≤ s .«n_messages» =
+    omega (arith, stays-few s, length-take (s .«n_messages») (s .«outbound_messages»)) in
+    let again : laid noEntry (length ms) (sendings (afterRetransmissions s) .stays) (laid noEntry (s .«n_messages») ms (s .«outbound_messages»))
+    ≡ laid noEntry (s .«n_messages») (firstSendings s .stays) (s .«outbound_messages») =
+    ap (λ (x : Visit Sending Entry Entry). laid noEntry (length ms) (x .stays) (laid noEntry (s .«n_messages») ms (s .«outbound_messages»))) v
+    ∙ laid-again noEntry (s .«n_messages») ms (firstSendings s .stays) (s .«outbound_messages») (stays-few-too s) few
+    (omega (arith, r .messages, long .messages)) in
+    let rows : s .«n_rows» ≤ length (s .«link_send_seq») = omega (arith, r .rows, long .rows) in
+    λ i.
+    record {
+      started = s .started;
+      «main_carrier» = s .«main_carrier»;
+      t251 = s .t251;
+      dltime = s .dltime;
+      «n_messages» = length (v i .stays);
+      «outbound_messages» = again i;
+      «n_udata» = 0;
+      «outbound_udata_messages» = laid noEntry (s .«n_udata») [] (s .«outbound_udata_messages»);
+      «n_acks» = 0;
+      «scheduled_out_acks» = laid noAck (s .«n_acks») [] (s .«scheduled_out_acks»);
+      receipts = v i .state .receipts;
+      «n_rows» = sym (length-take-le (s .«n_rows») (s .«link_send_seq») rows) i;
+      «link_send_seq» = sym (laid-same noRow (s .«n_rows») (s .«link_send_seq») rows) i;
+    }
+
+-- The bytes that they write.
+tick-bytes :
+    (s : State) (store : List ℕ)
+    → allBytes (tickRecords s store)
+    ≡ sentBytesOf store (retransmissions s .out)
+    ++ (sentBytesOf store (firstSendings s .out) ++ (replyBytesOf (acksOf s) ++ udataBytesOf store (udataOf s)))
+unfolding tickRecords sentBytesOf replyBytesOf udataBytesOf
+tick-bytes s store = simp allBytes-append
+
+-- What the second pass needs of the state and the output that it finds, and what the last two passes and the clears do.
+pub record Second (store : List ℕ) (s : State) (out : List ℕ) (at : ℕ) : Type 0 where
+  pub few : s .«n_messages» ≤ 64
+  pub entries : all entryInRange (messagesOf s) ≡ true
+  pub room : at + length (sentBytesOf store (sendings s .out)) ≤ length out
+
+pub record Last (store : List ℕ) (s : State) (out : List ℕ) (at : ℕ) : Type 0 where
+  pub acks : s .«n_acks» ≤ 64
+  pub udata : s .«n_udata» ≤ 32
+  pub entries : all entryInRange (udataOf s) ≡ true
+  pub room : at + (length (replyBytesOf (acksOf s)) + length (udataBytesOf store (udataOf s))) ≤ length out
+
+module _ (s : State) (store out : List ℕ) (long : Lengths s) (range : inRange s ≡ true) (room : 46656 ≤ length out) where
+  -- Room for all of them.
+  sizes :
+      length (sentBytesOf store (retransmissions s .out))
+      + (length (sentBytesOf store (firstSendings s .out)) + (length (replyBytesOf (acksOf s)) + length (udataBytesOf store (udataOf s))))
+      ≤ length out
+  sizes = omega (arith, simp length-append at (ap length (tick-bytes s store)), tick-room s store long range, room)
+
+  pub first-room : length (sentBytesOf store (retransmissions s .out)) ≤ length out
+  first-room = omega (arith, sizes)
+
+  -- Behind the first pass.
+  module _
+      {s₁ : State} {out₁ : List ℕ} {at₁ : ℕ}
+      (e₁ : s₁ ≡ afterRetransmissions s)
+      (w₁ : Wrote out 0 (sentBytesOf store (retransmissions s .out)) out₁ at₁) where
+    sent-are : sendings s₁ ≡ firstSendings s
+    sent-are = ap sendings e₁ ∙ sendings-are s
+
+    sent-bytes : sentBytesOf store (sendings s₁ .out) ≡ sentBytesOf store (firstSendings s .out)
+    sent-bytes = ap (λ (x : Visit Sending Entry Entry). sentBytesOf store (x .out)) sent-are
+
+    pub second : Second store s₁ out₁ at₁
+    second =
+        let count : s₁ .«n_messages» ≡ length (retransmissions s .stays) = ap (λ (x : State). x .«n_messages») e₁ in
+        record {
+          few =
+              omega (arith, count, stays-few s, length-take (s .«n_messages») (s .«outbound_messages»), range-tells s range .head .messages);
+          entries =
+              ap (λ (x : State). all entryInRange (messagesOf x)) e₁
+              ∙ ap (all entryInRange) (messages-left s)
+              ∙ stays-in-range s range;
+          room = omega (arith, sizes, w₁ .next, as-long w₁, ap length sent-bytes);
+        }
+
+    -- Behind the second.
+    module _
+        {s₂ : State} {out₂ : List ℕ} {at₂ : ℕ}
+        (e₂ : s₂ ≡ afterSendings s₁)
+        (w₂ : Wrote out₁ at₁ (sentBytesOf store (sendings s₁ .out)) out₂ at₂) where
+      both-are : s₂ ≡ afterSendings (afterRetransmissions s)
+      both-are = e₂ ∙ ap (λ (x : State). afterSendings x) e₁
+
+      acks-are : replyBytesOf (acksOf s₂) ≡ replyBytesOf (acksOf s)
+      acks-are = ap (λ (x : State). replyBytesOf (acksOf x)) both-are
+
+      udata-are : udataBytesOf store (udataOf s₂) ≡ udataBytesOf store (udataOf s)
+      udata-are = ap (λ (x : State). udataBytesOf store (udataOf x)) both-are
+
+      pub last : Last store s₂ out₂ at₂
+      last =
+          let r = range-tells s range in
+          let acks : s₂ .«n_acks» ≡ s .«n_acks» = ap (λ (x : State). x .«n_acks») both-are in
+          let udata : s₂ .«n_udata» ≡ s .«n_udata» = ap (λ (x : State). x .«n_udata») both-are in
+          record {
+            acks = omega (arith, acks, r .head .acks);
+            udata = omega (arith, udata, r .head .udata);
+            entries = ap (λ (x : State). all entryInRange (udataOf x)) both-are ∙ r .udata;
+            room =
+                omega (arith, sizes, w₁ .next, w₂ .next, as-long w₁, as-long w₂, ap length sent-bytes, ap length acks-are, ap length udata-are);
+          }
+
+      -- The state, the bytes of the output and the place behind them are those of a tick end.
+      pub tick-end-is :
+          {s₃ s₄ : State} {out₃ out₄ : List ℕ} {at₃ at₄ : ℕ}
+          → Wrote out₂ at₂ (replyBytesOf (acksOf s₂)) out₃ at₃
+          → Wrote out₃ at₃ (udataBytesOf store (udataOf s₂)) out₄ at₄
+          → s₃ ≡ withAcks s₂ []
+          → s₄ ≡ withUdata s₃ []
+          → effect (answer 0 s₄ at₄) store out₄ ≡ delivered s store out (acts tickEnd s store)
+      unfolding acts laidOut
+      tick-end-is {s₃} {s₄} {out₃} {out₄} {at₃} {at₄} w₃ w₄ e₃ e₄ =
+          let vs : List ℕ = allBytes (tickRecords s store) in
+          let w : Wrote out 0 vs out₄ at₄ =
+          same-bytes (sym (tick-bytes s store)) (w₁ ⨾ (same-bytes sent-bytes w₂ ⨾ (same-bytes acks-are w₃ ⨾ same-bytes udata-are w₄))) in
+          let state : s₄ ≡ ticked s =
+          e₄ ∙ ap (λ (x : State). withUdata x []) (e₃ ∙ ap (λ (x : State). withAcks x []) both-are) ∙ passed-is s long range in
+          let behind : 0 + length vs ≡ length vs = zero-add (length vs) in
+          let bytes : out₄ ≡ vs ++ drop (length vs) out =
+          w .holds
+          ∙ write-is out 0 vs (omega (arith, tick-room s store long range, room))
+          ∙ ap (λ (k : ℕ). vs ++ drop k out) behind in
+          λ i.
+          record { answer = record { number = 0; state = state i; len = (w .next ∙ behind) i }; store = store; out = bytes i }

@@ -1,0 +1,95 @@
+use Prim.Native.Nat.{ℕ, _*_}
+use native.Mathlib.Omega.{arith}
+use mathlib.Core.Path.{_≡_, _∙_, refl, sym, ap}
+use mathlib.Core.Bool.{Bool, true, false, cond}
+use mathlib.Core.List.{List}
+use mathlib.Core.Option.{none, some}
+use denote.Laws.{Is}
+use denote.Struct.Declared.{row}
+use denote.Struct.Laws as S
+use lib.ListN.{length, length-map}
+use Rattle.bits.specs.Bits.{bits, part}
+use Rattle.llc_rule.specs.Records.{sentBytes}
+use Rattle.llc_records.specs.Records.{maskIf, sent}
+use Rattle.llc_records.specs.declared.SentRecord.{SentRecord}
+use Rattle.llc_records.proofs.Wrote.{same-bytes}
+use Rattle.llc_state.specs.View.{placeBit, frameIn, sentIn}
+use Rattle.llc_state.specs.declared.Entry.{Entry}
+use Rattle.llc_state.proofs.Entry.{the-type}
+use Rattle.llc_state.proofs.Entry.Laws.{the-laws}
+use borrow.Author.Needs.{needs}
+use Rattle.llc_tick_end.proofs.messages.put_message.Statement.{statement}
+use Rattle.llc_tick_end.proofs.messages.put_message.Tie as tie
+
+-- How long the array of a block is.
+block-long : (e : Entry) → Is (row the-type) e (S.vals the-type the-laws e) → length (e .block) ≡ 64
+block-long e p = sym (length-map (e .block) (λ (v : ℕ). v)) ∙ p .1 .1 .1 .1 .1 .1 .1 .1 .1 .1 .1 .1 .1 .0 .1 .0 .1
+
+-- What is taken from an entry, and that it is the message.
+abbrev sentOf : Entry → SentRecord
+sentOf e =
+    record {
+      ssi = e .ssi;
+      «ssi_type» = e .«ssi_type»;
+      carrier = e .«carrier_num»;
+      link = e .«link_id»;
+      endpoint = e .«endpoint_id»;
+      handle = e .«req_handle»;
+      steal = e .«stealing_permission»;
+      «has_mask» = e .«has_mask»;
+      mask = e .mask;
+      receipt = e .receipt;
+    }
+
+mask-is : (has : Bool) (m : ℕ) → maskIf has m ≡ cond has (some m) none
+mask-is true m = refl
+mask-is false m = refl
+
+message-is :
+    (k : ℕ) (store : List ℕ) (e : Entry)
+    → sentBytes k (sent (sentOf e) (part (e .block) 0 (e .«block_len»)) (part store (e .place * 2688) (e .len)))
+    ≡ sentBytes k (sentIn store e)
+unfolding sentIn frameIn
+message-is k store e =
+    let place : e .place * 2688 ≡ placeBit (e .place) = omega arith in
+    λ i.
+    sentBytes k
+    (record {
+      ssi = e .ssi;
+      type = e .«ssi_type»;
+      carrier = e .«carrier_num»;
+      link = e .«link_id»;
+      endpoint = e .«endpoint_id»;
+      handle = e .«req_handle»;
+      steal = e .«stealing_permission»;
+      mask = mask-is (e .«has_mask») (e .mask) i;
+      receipt = e .receipt;
+      block = part (e .block) 0 (e .«block_len»);
+      pdu = part store (place i) (e .len);
+    })
+
+slice-aggregate-put-sent : tie.Need-slice-aggregate-put-sent
+slice-aggregate-put-sent c = search needs
+
+mul-put-sent : tie.Need-mul-put-sent
+mul-put-sent c = search needs
+
+put-sent-requires : tie.Need-put-sent-requires
+put-sent-requires c κs =
+    let s = c .before .before .before .before .before .before in
+    let size = ap length (message-is (s .args .kind) (bits (s .args .store .now)) (s .args .e)) in
+    let block = block-long (s .args .e) (s .good .1 .1 .1 .0) in
+    omega (arith, s .pre, size, block)
+
+same-length : tie.Need-same-length
+same-length c = search needs
+
+returns : tie.Need-returns
+returns c =
+    let s = c .before .before .before .before .before .before .before .before .before in
+    same-bytes (message-is (s .args .kind) (bits (s .args .store .now)) (s .args .e)) (c .before .before .put-sent .ensures)
+
+pub put-message-spec : {M : Type 1} → statement M
+put-message-spec =
+    tie.close
+    (tie.spec slice-aggregate-put-sent mul-put-sent put-sent-requires same-length returns)

@@ -1,0 +1,35 @@
+// The fourth pass: each unacknowledged message is handed down.
+ghost use Prim.Native.Nat.{_+_, _≤_};
+ghost use mathlib.Core.Path.{_≡_};
+ghost use mathlib.Core.Bool.{true};
+ghost use lib.ListN.{length};
+ghost use Rattle.bits.specs.Bits.{bits};
+ghost use Rattle.llc_rule.specs.Lists.{all};
+ghost use Rattle.llc_records.specs.Wrote.{Wrote};
+ghost use Rattle.llc_state.specs.Ranges.{entryInRange};
+ghost use Rattle.llc_steps.specs.States.{udataOf};
+ghost use Rattle.llc_tick_end.specs.Passes.{udataBytesOf};
+use crate::messages::put_message;
+use llc_state::State;
+
+// Goes through the unacknowledged messages, the oldest first.
+pub(crate) fn submit_udata_msgs_to_umac(
+    state: State,
+    store: &[u8],
+    out: &mut [u8],
+    at: usize,
+) -> usize
+    requires { ⌜ state .«n_udata» ≤ 32 ⌝ }
+    requires { ⌜ all entryInRange (udataOf state) ≡ true ⌝ }
+    requires { ⌜ length (now store) ≡ 32256 ⌝ }
+    requires { ⌜ at + length (udataBytesOf (bits (now store)) (udataOf state)) ≤ length (now out) ⌝ }
+    ensures { λ r. ⌜ Wrote (now (out .entry)) at (udataBytesOf (bits (now (store .entry))) (udataOf state)) (now (out .exit)) r ⌝ }
+{
+    let mut p = at;
+    let mut i = 0;
+    while i < state.n_udata {
+        p = put_message(out, p, 3, state.outbound_udata_messages[i], store);
+        i += 1;
+    }
+    p
+}
