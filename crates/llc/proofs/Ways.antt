@@ -9,7 +9,7 @@ use lib.Dec.{eqb, leb}
 use lib.ListN.{length, drop, length-append}
 use Rattle.bits.specs.Bits.{bits}
 use Rattle.bits.proofs.Laws.{length-bits}
-use Rattle.questions.specs.Outcome.{Outcome, accepted, refused, ask}
+use Rattle.questions.specs.Outcome.{Outcome, accepted, refused}
 use Rattle.llc_rule.specs.Calls as Rule
 use Rattle.llc_rule.specs.Calls.{Call, parsed}
 use Rattle.llc_rule.specs.Ranges as RuleRanges
@@ -27,7 +27,7 @@ use Rattle.llc_state.specs.declared.State.{State}
 use Rattle.llc_steps.specs.States.{Kept, kept}
 use Rattle.llc_steps.specs.declared.Answer.{Answer}
 use Rattle.llc_steps.specs.Answers.{Effect, effect, answer, laidOut, delivered}
-use Rattle.llc_steps.specs.Steps.{acts, called, steps}
+use Rattle.llc_steps.specs.Steps.{called, steps}
 use Rattle.llc.specs.Entry.{lentRight, answered, callOf}
 use Rattle.llc.specs.Questions.{unreadOf, startsOf, questionOf, performed}
 

@@ -18,6 +18,13 @@ use Rattle.llc_pdus.specs.declared.llc_pdu_type.LlcPduType.{LlcPduType}
 use Rattle.llc_pdus.specs.declared.llc_pdu_type.LlcPduType.the-variants as Types
 use Rattle.llc_pdus.specs.declared.llc_pdu_type.TypeOf.{TypeOf}
 
+-- A header has at most six bits.
+pub header-short : (p : Pdu) → length (header p) ≤ 6
+header-short (BlAdata fcs nr ns) = omega arith
+header-short (BlData fcs ns) = omega arith
+header-short (BlUdata fcs) = omega arith
+header-short (BlAck fcs nr) = omega arith
+
 -- Each type is the one with its number.
 pub from-raw : (t : LlcPduType) → fromRaw (raw t) ≡ TypeOf.Type t
 from-raw Types.BlAdata = refl

@@ -1,5 +1,4 @@
 // A frame taken apart: its header is in its first byte.
-ghost use Prim.Native.Nat.{_≤_};
 ghost use mathlib.Core.Path.{_≡_};
 ghost use lib.ListN.{length};
 ghost use Rattle.bits.specs.Bits.{toBits, bits};

@@ -14,7 +14,7 @@ use Rattle.llc_pdus.specs.Answers.{written}
 use Rattle.llc_pdus.specs.Headers.{header}
 use Rattle.llc_pdus.specs.Writes.{written as writtenOf}
 use Rattle.llc_pdus.specs.declared.Pdu.{Pdu}
-use Rattle.llc_pdus.specs.declared.Pdu.the-variants.{BlAdata, BlData, BlUdata, BlAck}
+use Rattle.llc_pdus.proofs.Laws.{header-short}
 use Rattle.llc_pdus.specs.declared.Written.{Written}
 use Rattle.llc_calls.specs.Decoded.{requestOf, RequestInside}
 use Rattle.llc_calls.specs.declared.RequestCall.{RequestCall}
@@ -49,13 +49,6 @@ whole xs ys a k vs inside fits e =
     ∙ append-assoc vs (drop (0 + length vs) (bits mid)) (bits post)
     ∙ ap (λ (t : List ℕ). vs ++ t) rest)
     ∙ ap (λ (t : List ℕ). t ++ (vs ++ drop (8 * a + length vs) (bits xs))) (sym (take-bits a xs))
-
--- A header has at most six bits.
-header-short : (p : Pdu) → length (header p) ≤ 6
-header-short (BlAdata fcs nr ns) = omega arith
-header-short (BlData fcs ns) = omega arith
-header-short (BlUdata fcs) = omega arith
-header-short (BlAck fcs nr) = omega arith
 
 -- What is not too long, is there and has room is written.
 all-written :

@@ -12,7 +12,7 @@ use Rattle.llc_rule.specs.Lists.{keep, all, among}
 use Rattle.llc_rule.specs.Calls.{Call, start, tickStart, tickEnd, dataRequest, unitdataRequest, frame, report, release, parsed}
 use Rattle.llc_rule.specs.Ranges.{inRange}
 use Rattle.llc_rule.specs.Records.{Record}
-use Rattle.llc_rule.specs.Messages.{Place, free, taken, placeAt, isFree, noReceipts}
+use Rattle.llc_rule.specs.Messages.{Place, free, placeAt, isFree, noReceipts}
 use Rattle.llc_rule.specs.Done.{Done}
 use Rattle.llc_rule.specs.Link.{Link, new, bitOf}
 use Rattle.llc_rule.specs.Step.{isStart, called, step}

@@ -13,6 +13,7 @@ use Rattle.tdma_time.specs.declared.TdmaTime.{TdmaTime}
 use Rattle.tx_receipt.specs.declared.TxState.the-variants.{Discarded, Transmitted}
 use Rattle.llc_pdus.specs.Headers.{Reading, reading, hasFcs, header}
 use Rattle.llc_pdus.specs.declared.Pdu.{Pdu}
+use Rattle.llc_pdus.proofs.Laws.{header-short}
 use Rattle.llc_pdus.specs.declared.Pdu.the-variants.{BlAdata, BlData, BlUdata, BlAck}
 use Rattle.llc_rule.specs.Lists.{Found, nothing, first, Visit, walk, among}
 use Rattle.llc_rule.specs.Calls.{Call, start, tickStart, tickEnd, dataRequest, unitdataRequest, frame, report, release, Request, Frame, parsed}
@@ -363,18 +364,12 @@ ask-small :
     (l : Link) → Small l → (n : ℕ) (b : Bool) (o : Outcome (Done Link)) → (b ≡ true → LeavesSmall l o) → LeavesSmall l (ask n b o)
 ask-small l h n b o f = asked (LeavesSmall l) n b o h f
 
-length-header : (p : Pdu) → length (header p) ≤ 6
-length-header (BlAdata c nr ns) = omega arith
-length-header (BlData c ns) = omega arith
-length-header (BlUdata c) = omega arith
-length-header (BlAck c nr) = omega arith
-
 -- What a request in range hands down.
 pub sent-small : (r : Request) (carrier link : ℕ) (p : Pdu) → requestInRange r ≡ true → SmallSent (sentOf r carrier link p)
 unfolding sentOf
 sent-small r carrier link p e =
     let n = request-lengths r e in
-    let m = length-header p in
+    let m = header-short p in
     record { block = n .0; pdu = rw (length-append (header p) (r .sdu)) (omega arith) }
 
 with-acknowledged-small : (r : Request) (l : Link) → requestInRange r ≡ true → Small l → Small (withAcknowledged r l)

@@ -20,7 +20,7 @@ use Rattle.llc_rule.specs.Messages.{noReceipts}
 use Rattle.llc_rule.specs.Link.{Link, startedWith, bitOf}
 use Rattle.llc_rule.specs.Step.{receiptFree, rowFor, acknowledgedPlace, unacknowledgedPlace, onAcknowledgedPath, withUnacknowledged, dueRoom, reportable, releasable, onData, onUnitdata, onReceived, onFrame, onReport, onRelease, act}
 use Rattle.llc_rule.specs.Rule.{Own, afterStart, afterData, afterUnitdata, afterReceived, afterFrame, does}
-use Rattle.llc_rule.specs.Past.{Holders, nobody, holding, isHolder, heldAfter, Whose, holder's, whoseCall, concerns, isTickEnd}
+use Rattle.llc_rule.specs.Past.{Holders, nobody, holding, isHolder, heldAfter, holder's, whoseCall, concerns, isTickEnd}
 use Rattle.llc_rule.specs.Sound.{Sound}
 use Rattle.llc_rule.proofs.Lists.{by-test, clash}
 use Rattle.llc_rule.proofs.Own.{about, blankFrom, own, seenAs, accepted-same}

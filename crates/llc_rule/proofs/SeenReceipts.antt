@@ -7,7 +7,6 @@ use mathlib.Core.Option.{none, some, Option·some-injective}
 use borrow.Author.Tests.{eq-eqb, eqb-true}
 use lib.Dec.{eqb}
 use lib.ListN.{length, set}
-use Rattle.tx_receipt.specs.States.{is}
 use Rattle.tx_receipt.specs.declared.TxState.{TxState}
 use Rattle.tx_receipt.specs.declared.TxState.the-variants.{Discarded, Transmitted}
 use Rattle.llc_rule.specs.Lists.{keep, any}

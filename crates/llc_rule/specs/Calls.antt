@@ -1,7 +1,7 @@
 -- Document 01, "Calls and records", the calls: bytes taken apart, with question 2 (do the outer length and, for a known tag,
 -- the inner ones fill the call, spare bits zero?) and question 3 (is the tag known?).
 use Prim.Native.Nat.{ℕ, zero, suc, _+_, _*_, _/_, _%_, _^_}
-use mathlib.Core.Bool.{Bool, cond, not, _&&_}
+use mathlib.Core.Bool.{Bool, cond, _&&_}
 use mathlib.Core.List.{List, [], _∷_}
 use lib.Dec.{eqb, leb}
 use lib.ListN.{length, getD, take, drop}

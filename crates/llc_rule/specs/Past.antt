@@ -9,7 +9,7 @@ use Rattle.questions.specs.Outcome.{Outcome, accepted, refused}
 use Rattle.llc_rule.specs.Lists.{keep}
 use Rattle.llc_rule.specs.Calls.{Call, start, tickStart, tickEnd, dataRequest, unitdataRequest, frame, report, release, parsed}
 use Rattle.llc_rule.specs.Records.{Record, ssiOf}
-use Rattle.llc_rule.specs.Messages.{Place, free, isFree}
+use Rattle.llc_rule.specs.Messages.{Place, isFree}
 use Rattle.llc_rule.specs.Runs.{Exchange}
 
 -- Who holds each receipt: the SSI of a request, or nobody.

@@ -16,7 +16,7 @@ use Rattle.llc_rule.specs.Calls.{Call, start, tickStart, tickEnd, dataRe
 use Rattle.llc_rule.specs.Ranges.{steals, wantsFcs, inRange}
 use Rattle.llc_rule.specs.Records.{Record, acknowledged, unacknowledged, Sent}
 use Rattle.llc_rule.specs.Received.{Received, received, nsOf, nrOf, upward}
-use Rattle.llc_rule.specs.Messages.{Message, waiting, submittedAfter, doneAt, hasTime, overdue, Due, slotBefore, replyTo, Place, free, taken, placeAt, isFree, pending, taken?, mark, reported, carrierOf, sentOf}
+use Rattle.llc_rule.specs.Messages.{Message, waiting, submittedAfter, doneAt, hasTime, overdue, Due, slotBefore, replyTo, Place, free, placeAt, isFree, pending, taken?, mark, reported, carrierOf, sentOf}
 use Rattle.llc_rule.specs.Done.{Done, done}
 use Rattle.llc_rule.specs.Link.{Link, Row, startedWith, withTime, withQueues, withReceipts, bitOf, withBit}
 

@@ -34,10 +34,11 @@ use Rattle.llc_steps.specs.States.{Kept}
 use Rattle.llc_steps.specs.Answers.{delivered, laidOut}
 use Rattle.llc.specs.Entry.{lentRight, answered, callOf}
 use Rattle.llc_runs.specs.Runs.{Lent, Station, begin, left, recordsOf, given, exchange, run, after}
+use Rattle.llc_runs.specs.Heard.{fits, fitting, putTo}
 use Rattle.llc_runs.specs.Claim.{linkAt, Shown, InRange, SeesItsOwnPast, SeesTheSame, whoseAfter, Claim}
 use Rattle.llc_runs.proofs.Ones.{past-heard, strays-heard, holders-heard, unhindered-heard, sendings-heard}
 use Rattle.llc_runs.proofs.Numbers.{not-one}
-use Rattle.llc_runs.proofs.Runs.{silent, Asked, asks, asks-not, fits, fitting, fitting-append, fitting-yes, fitting-no, follows, wrong-is, stuck, begin-right, begin-wrong, putTo, as-rule}
+use Rattle.llc_runs.proofs.Runs.{silent, Asked, asks, asks-not, fitting-append, fitting-yes, fitting-no, follows, wrong-is, stuck, begin-right, begin-wrong, as-step}
 
 -- The output of a call, and the length that it answers.
 shown-by :
@@ -99,23 +100,23 @@ module _ (store : List ℕ) (cs : List Lent) where
   onLink = Rule.run new (putTo store cs)
 
   past-is : (a : ℕ) (h : Holders) → past a h (run (begin store) cs) ≡ past a h onLink
-  past-is a h = past-heard a h (run (begin store) cs) (silent (begin store) cs) ∙ ap (past a h) (as-rule store cs .heard)
+  past-is a h = past-heard a h (run (begin store) cs) (silent (begin store) cs) ∙ ap (past a h) (as-step store cs .heard)
 
   strays-are : (a : ℕ) (h : Holders) → strays a h (run (begin store) cs) ≡ strays a h onLink
-  strays-are a h = strays-heard a h (run (begin store) cs) (silent (begin store) cs) ∙ ap (strays a h) (as-rule store cs .heard)
+  strays-are a h = strays-heard a h (run (begin store) cs) (silent (begin store) cs) ∙ ap (strays a h) (as-step store cs .heard)
 
   holders-are : holdersAfter nobody (run (begin store) cs) ≡ holdersAfter nobody onLink
   holders-are =
-      holders-heard nobody (run (begin store) cs) (silent (begin store) cs) ∙ ap (holdersAfter nobody) (as-rule store cs .heard)
+      holders-heard nobody (run (begin store) cs) (silent (begin store) cs) ∙ ap (holdersAfter nobody) (as-step store cs .heard)
 
   pub unhindered-is : unhindered (run (begin store) cs) ≡ unhindered onLink
-  unhindered-is = unhindered-heard (run (begin store) cs) (silent (begin store) cs) ∙ ap unhindered (as-rule store cs .heard)
+  unhindered-is = unhindered-heard (run (begin store) cs) (silent (begin store) cs) ∙ ap unhindered (as-step store cs .heard)
 
   held-are :
       (a : ℕ)
       → heldBy a (holdersAfter nobody (run (begin store) cs)) 0 (linkAt (after (begin store) cs) .receipts)
       ≡ heldBy a (holdersAfter nobody onLink) 0 (Rule.after new (putTo store cs) .receipts)
-  held-are a = ap₂ (λ (h : Holders) (l : Link). heldBy a h 0 (l .receipts)) holders-are (as-rule store cs .link)
+  held-are a = ap₂ (λ (h : Holders) (l : Link). heldBy a h 0 (l .receipts)) holders-are (as-step store cs .link)
 
 -- Demand 3.
 sees-own :
@@ -246,7 +247,7 @@ one-by-rule store cs u a =
 one-in-state :
     (store : List ℕ) (cs : List Lent) (a : ℕ) → underWay (ofAddress a (linkAt (after (begin store) cs) .acknowledged)) ≤ 1
 one-in-state store cs a =
-    subst (λ (l : Link). underWay (ofAddress a (l .acknowledged)) ≤ 1) (sym (as-rule store cs .link))
+    subst (λ (l : Link). underWay (ofAddress a (l .acknowledged)) ≤ 1) (sym (as-step store cs .link))
     (one-under-way .onLink (putTo store cs) a)
 
 -- A request that is accepted was lent what is right.
@@ -268,7 +269,7 @@ four-right :
     → AtMostFour r (sendings (r .receipt) (run (left (after (begin store) before) c) later))
 four-right store before c r later a n e =
     let s : Station = after (begin store) before in
-    let l = as-rule store before .link in
+    let l = as-step store before .link in
     subst (AtMostFour r)
     (sym
     (sendings-are (r .receipt) s c later a
@@ -300,6 +301,7 @@ claim =
     record {
       shown = shown;
       inRange = in-range;
+      asStep = as-step;
       demand3 = sees-own;
       swap = swapped;
       oneUnderWay = one-by-rule;

@@ -18,7 +18,8 @@ use Rattle.llc_rule.proofs.Lists.{both, if-true}
 use Rattle.llc_rule.proofs.Instance.{instance, instanceCalls, unhindered-instance}
 use Rattle.llc_runs.specs.Runs.{Lent, begin, run}
 use Rattle.llc_runs.specs.Claim.{SeesItsOwnPast}
-use Rattle.llc_runs.proofs.Runs.{fitting, fitting-yes}
+use Rattle.llc_runs.specs.Heard.{fitting}
+use Rattle.llc_runs.proofs.Runs.{fitting-yes}
 use Rattle.llc_runs.proofs.Claim.{unhindered-is, claim}
 
 -- Calls of bytes.

@@ -14,13 +14,7 @@ use Rattle.llc_rule.specs.Claim.{unhindered}
 use Rattle.llc_rule.specs.Sound.{All}
 use Rattle.llc_rule.specs.Sendings.{ends, handed, sendings}
 use Rattle.llc_rule.proofs.Lists.{by-test, if-false, keep-yes, keep-no}
-
--- Did a call get another number than 1? Those that did.
-abbrev pub wasHeard : Exchange → Bool
-wasHeard e = not (eqb (e .number) 1)
-
-abbrev pub heard : List Exchange → List Exchange
-heard es = keep wasHeard es
+use Rattle.llc_runs.specs.Heard.{wasHeard, heard}
 
 -- A call that got number 1 gave no record.
 abbrev pub Silent : Exchange → Type 0

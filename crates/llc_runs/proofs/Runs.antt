@@ -2,10 +2,10 @@
 use Prim.Native.Nat.{ℕ, _*_}
 use native.Mathlib.Omega.{arith}
 use mathlib.Core.Path.{_≡_, _∙_, refl, sym, ap, ap₂, subst}
-use mathlib.Core.Bool.{Bool, true, false, cond, not, _&&_}
+use mathlib.Core.Bool.{Bool, true, false, not, _&&_}
 use mathlib.Core.List.{List, [], _∷_, _++_, map, map-append}
 use borrow.Author.Tests.{eqb-true, eqb-false, eq-eqb, ne-eqb}
-use lib.Dec.{eqb, leb}
+use lib.Dec.{eqb}
 use lib.ListN.{length}
 use Rattle.bits.specs.Bits.{bits}
 use Rattle.bits.proofs.Laws.{length-bits}
@@ -30,8 +30,9 @@ use Rattle.llc_steps.proofs.Ready.{ready}
 use Rattle.llc_steps.proofs.Sane.{new-sane, steps-sane}
 use Rattle.llc.specs.Entry.{lentRight, answered, callOf}
 use Rattle.llc_runs.specs.Runs.{Lent, Station, station, begin, left, recordsOf, given, exchange, run, after}
-use Rattle.llc_runs.specs.Claim.{linkAt}
-use Rattle.llc_runs.proofs.Ones.{wasHeard, heard, Silent}
+use Rattle.llc_runs.specs.Heard.{wasHeard, heard, fits, fitting}
+use Rattle.llc_runs.specs.Claim.{linkAt, AsStep}
+use Rattle.llc_runs.proofs.Ones.{Silent}
 use Rattle.llc_runs.proofs.Numbers.{not-one}
 
 -- What comes of a call, as its questions are answered.
@@ -117,13 +118,7 @@ unheard-first s c cs u =
     keep-no wasHeard (exchange s c) (run (left s c) cs) (ap (λ (k : ℕ). not (eqb k 1)) (u .one))
     ∙ ap (λ (t : Station). heard (run t cs)) (u .same)
 
--- A run on a store of 32,256 bytes. The calls whose output has at least 46,656 bytes are put to the link.
-abbrev pub fits : Lent → Bool
-fits c = leb 46656 (length (c .out))
-
-abbrev pub fitting : List Lent → List (List ℕ)
-fitting cs = map (λ (c : Lent). c .call) (keep fits cs)
-
+-- A run on a store of 32,256 bytes.
 pub fitting-append : (cs ds : List Lent) → fitting (cs ++ ds) ≡ fitting cs ++ fitting ds
 fitting-append cs ds =
     ap (map (λ (c : Lent). c .call)) (keep-append fits cs ds) ∙ map-append (λ (c : Lent). c .call) (keep fits cs) (keep fits ds)
@@ -213,17 +208,10 @@ begin-wrong store e =
     ne-eqb (length (bits store)) (8 * 32256)
     (λ q. eqb-false (length store) 32256 e (omega (arith, length-bits store, q)))
 
--- The calls of a run that are put to the link.
-abbrev pub putTo : List ℕ → List Lent → List (List ℕ)
-putTo store cs = cond (eqb (length store) 32256) (fitting cs) []
-
-pub record AsRule (store : List ℕ) (cs : List Lent) : Type 0 where
-  pub heard : heard (run (begin store) cs) ≡ Rule.run new (putTo store cs)
-  pub link : linkAt (after (begin store) cs) ≡ Rule.after new (putTo store cs)
-
-pub as-rule : (store : List ℕ) (cs : List Lent) → AsRule store cs
+-- Both.
+pub as-step : (store : List ℕ) (cs : List Lent) → AsStep store cs
 unfolding Rule.run Rule.after
-as-rule store cs =
+as-step store cs =
     by-test (eqb (length store) 32256)
     (λ right.
     let f = follows (begin store) cs (begin-right store right) in

@@ -9,7 +9,8 @@ use lib.Dec.{eqb}
 use lib.ListN.{length}
 use Rattle.llc_rule.specs.Calls.{Request, parsed}
 use Rattle.llc_rule.specs.Records.{allBytes}
-use Rattle.llc_rule.specs.Link.{Link}
+use Rattle.llc_rule.specs.Link.{Link, new}
+use Rattle.llc_rule.specs.Runs as Rule
 use Rattle.llc_rule.specs.Rule.{atFirst}
 use Rattle.llc_rule.specs.Past.{nobody, Whose, belongsTo, whose, past, strays, holdersAfter, sight, heldBy, takenFrom}
 use Rattle.llc_rule.specs.Claim.{ruleSights, ruleAfter, calls, unhindered, underWay}
@@ -20,6 +21,7 @@ use Rattle.llc_state.specs.View.{linkIn}
 use Rattle.llc_steps.specs.Answers.{laidOut}
 use Rattle.llc.specs.Entry.{lentRight, callOf}
 use Rattle.llc_runs.specs.Runs.{Lent, Station, begin, left, given, exchange, run, after}
+use Rattle.llc_runs.specs.Heard.{heard, putTo}
 
 -- The link that state and store hold.
 abbrev pub linkAt : Station → Link
@@ -38,6 +40,11 @@ pub record InRange (store : List ℕ) (cs : List Lent) : Type 0 where
   pub number : (c : Lent) → eqb (exchange (after (begin store) cs) c .number) 1 ≡ not (lentRight (after (begin store) cs .store) (c .out))
   -- A store is right or wrong for a whole run.
   pub length : length (after (begin store) cs .store) ≡ 8 * length store
+
+-- Its numbers and records are those of `step`'s run on the calls that are put to the link, and so is the link that it leaves.
+pub record AsStep (store : List ℕ) (cs : List Lent) : Type 0 where
+  pub heard : heard (run (begin store) cs) ≡ Rule.run new (putTo store cs)
+  pub link : linkAt (after (begin store) cs) ≡ Rule.after new (putTo store cs)
 
 -- Demand 3, of an address a.
 pub record SeesItsOwnPast (store : List ℕ) (cs : List Lent) (a : ℕ) : Type 0 where
@@ -66,6 +73,7 @@ whoseAfter store cs c = whose (holdersAfter nobody (run (begin store) cs)) (c .c
 pub record Claim : Type 0 where
   pub shown : (s : Station) (c : Lent) → Shown s c
   pub inRange : (store : List ℕ) (cs : List Lent) → InRange store cs
+  pub asStep : (store : List ℕ) (cs : List Lent) → AsStep store cs
   -- Demand 3: for every list of calls, if none was refused for a taken receipt or a full table (6, 7, 8, 13), each address has
   -- seen exactly what the one-address rule gives on its past alone.
   pub demand3 :

@@ -1,6 +1,5 @@
 // Question 1 of a state's counts and values in use.
 ghost use mathlib.Core.Path.{_≡_};
-ghost use mathlib.Core.Bool.{Bool};
 ghost use Rattle.llc_state.specs.Ranges.{entryInRange, ackInRange, rowInRange, headInRange, inRange};
 use crate::Entry;
 use crate::LinkSendSeq;

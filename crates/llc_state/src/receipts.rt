@@ -1,7 +1,7 @@
 // The receipts of a state, by their numbers.
 ghost use mathlib.Core.Path.{_≡_};
 ghost use Prim.Native.Nat.{_<_};
-ghost use Rattle.llc_state.specs.Receipts.{markedPlace, pendingPlace, markReceipt, takeReceipt, freeReceipt};
+ghost use Rattle.llc_state.specs.Receipts.{markedPlace, markReceipt, takeReceipt, freeReceipt};
 use crate::ReceiptPlace;
 use crate::State;
 use tx_receipt::TxReceipt;

@@ -14,7 +14,8 @@ use Rattle.questions.specs.Outcome.{Outcome, accepted, ask}
 use Rattle.tx_receipt.specs.declared.TxReceipt.{TxReceipt}
 use Rattle.llc_pdus.specs.Headers.{header}
 use Rattle.llc_pdus.specs.declared.Pdu.{Pdu}
-use Rattle.llc_pdus.specs.declared.Pdu.the-variants.{BlAdata, BlData, BlUdata, BlAck}
+use Rattle.llc_pdus.proofs.Laws.{header-short}
+use Rattle.llc_pdus.specs.declared.Pdu.the-variants.{BlUdata, BlAck}
 use Rattle.llc_rule.specs.Lists.{Found, nothing, first, others}
 use Rattle.llc_rule.specs.Calls.{Request}
 use Rattle.llc_rule.specs.Ranges.{steals, wantsFcs}
@@ -246,12 +247,6 @@ placed s store pdu ok few short =
 -- A question that is asked alike, of two that agree where it is passed.
 pub ask-same : {A : Type 0} (n : ℕ) {b c : Bool} {x y : Outcome A} → b ≡ c → (b ≡ true → x ≡ y) → ask n b x ≡ ask n c y
 ask-same n {b} {c} {x} {y} e f = ap (λ (t : Bool). ask n b x) e ∙ by-test b (λ t. rw (← e, t) (f t)) (λ t. rw (← e, t))
-
-header-short : (p : Pdu) → length (header p) ≤ 6
-header-short (BlAdata f nr ns) = omega arith
-header-short (BlData f ns) = omega arith
-header-short (BlUdata f) = omega arith
-header-short (BlAck f nr) = omega arith
 
 module _ (r : Request) (s : State) (store : List ℕ) (ok : Ready s store) (block : length (r .block) ≤ 64) (sdu : length (r .sdu) ≤ 2595) where
   pdu-short : (p : Pdu) → length (header p ++ r .sdu) ≤ 2688

@@ -9,6 +9,7 @@ use Rattle.llc_state.specs.declared.ReceiptPlace.{ReceiptPlace}
 use Rattle.llc_state.specs.declared.LinkSendSeq.{LinkSendSeq}
 use Rattle.llc_state.specs.declared.State.{State}
 use Rattle.llc_state.specs.States.{noEntry, noAck, noRow}
+use Rattle.llc_state.specs.Receipts.{withPlaces}
 use Rattle.llc_steps.specs.Arrays.{laid}
 
 -- What of the arrays is in use.
@@ -99,22 +100,7 @@ withRows s rs =
 
 -- All of these at once, and other receipts.
 unfoldable pub relaid : State → List Entry → List Entry → List ScheduledOutAck → List ReceiptPlace → List LinkSendSeq → State
-relaid s ms us ds ps rs =
-    record {
-      started = s .started;
-      «main_carrier» = s .«main_carrier»;
-      t251 = s .t251;
-      dltime = s .dltime;
-      «n_messages» = length ms;
-      «outbound_messages» = laid noEntry (s .«n_messages») ms (s .«outbound_messages»);
-      «n_udata» = length us;
-      «outbound_udata_messages» = laid noEntry (s .«n_udata») us (s .«outbound_udata_messages»);
-      «n_acks» = length ds;
-      «scheduled_out_acks» = laid noAck (s .«n_acks») ds (s .«scheduled_out_acks»);
-      receipts = ps;
-      «n_rows» = length rs;
-      «link_send_seq» = laid noRow (s .«n_rows») rs (s .«link_send_seq»);
-    }
+relaid s ms us ds ps rs = withRows (withPlaces (withAcks (withUdata (withMessages s ms) us) ds) ps) rs
 
 -- What an accepted call leaves: the state, the bits of the store, and the records that it gives.
 pub record Kept : Type 0 where

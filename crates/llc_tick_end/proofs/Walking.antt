@@ -1,20 +1,11 @@
 -- A loop that visits a queue, one element a turn.
-use Prim.Native.Nat.{ℕ, zero, suc, _+_, _≤_, _<_}
+use Prim.Native.Nat.{ℕ, suc, _+_, _≤_, _<_}
 use native.Mathlib.Omega.{arith}
 use mathlib.Core.Path.{_≡_, _∙_, refl, sym, ap}
-use mathlib.Core.List.{List, [], _∷_, _++_, append-assoc, append-nil}
+use mathlib.Core.List.{List, [], _++_, append-assoc, append-nil}
 use lib.ListN.{length, getD, drop}
+use lib.Seq.{drop-cons, drop-length}
 use Rattle.llc_rule.specs.Lists.{Visit, _then_, walk}
-
--- The element of a place, and those behind it.
-pub drop-next : {A : Type 0} (l : List A) (i : ℕ) (d : A) → i < length l → drop i l ≡ getD l i d ∷ drop (suc i) l
-drop-next [] i d h = absurd (omega (arith, h))
-drop-next (x ∷ l) zero d h = refl
-drop-next (x ∷ l) (suc i) d h = drop-next l i d (omega (arith, h))
-
-pub drop-whole : {A : Type 0} (l : List A) → drop (length l) l ≡ []
-drop-whole [] = refl
-drop-whole (x ∷ l) = drop-whole l
 
 module _ {S A R : Type 0} where
   -- The visits so far came to v, and with the visits to those from i on they are the whole walk.
@@ -46,7 +37,7 @@ module _ {S A R : Type 0} where
           left =
               ap (λ (k : ℕ). _then_ (_then_ v (f (v .state) x)) (walk f (f (v .state) x .state) (drop k l))) one
               ∙ then-assoc v (f (v .state) x) (walk f (f (v .state) x .state) (drop (suc i) l))
-              ∙ ap (λ (t : List A). _then_ v (walk f (v .state) t)) (sym (drop-next l i d less))
+              ∙ ap (λ (t : List A). _then_ v (walk f (v .state) t)) (sym (drop-cons l i d less))
               ∙ h .left;
         }
 
@@ -56,7 +47,7 @@ module _ {S A R : Type 0} where
     walked none =
         let e : i ≡ length l = omega (arith, h .low, none) in
         (λ k. record { state = v .state; stays = sym (append-nil (v .stays)) k; out = sym (append-nil (v .out)) k })
-        ∙ ap (λ (t : List A). _then_ v (walk f (v .state) t)) (sym (ap (λ (k : ℕ). drop k l) e ∙ drop-whole l))
+        ∙ ap (λ (t : List A). _then_ v (walk f (v .state) t)) (sym (ap (λ (k : ℕ). drop k l) e ∙ drop-length l))
         ∙ h .left
 
     -- What was put out so far, and what the next visit puts out, is part of what the whole walk does.

@@ -1,5 +1,4 @@
 use Rattle.llc.proofs.Ways.{lent-bits}
-use borrow.Author.Needs.{needs}
 use Rattle.llc.proofs.entry.lent_right.Statement.{statement}
 use Rattle.llc.proofs.entry.lent_right.Tie as tie
 
