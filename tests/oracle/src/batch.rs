@@ -1,0 +1,63 @@
+//! Lines in order, and the answers that are expected to them, from a new state on.
+use crate::generator::Generator;
+use crate::hex_line::line_of;
+use crate::oracle::{Answer, Oracle};
+use crate::prng::Prng;
+
+/// Lines, with the expected text of each.
+pub struct Batch {
+    pub oracle: Oracle,
+    pub lines: Vec<Vec<u8>>,
+    pub expected: Vec<String>,
+    /// Places where the Rust does not do what document 01 says of it.
+    pub faults: Vec<(usize, String)>,
+}
+
+/// The text that the runner prints for an answer.
+fn text(answer: &Answer) -> String {
+    let mut text = format!("{}\n", answer.number);
+    for record in &answer.records {
+        text.push_str(std::str::from_utf8(&line_of(record)).unwrap());
+        text.push('\n');
+    }
+    text
+}
+
+impl Batch {
+    /// No lines yet.
+    pub fn new() -> Batch {
+        Batch { oracle: Oracle::new(), lines: Vec::new(), expected: Vec::new(), faults: Vec::new() }
+    }
+
+    /// These lines.
+    pub fn of(lines: &[Vec<u8>]) -> Batch {
+        let mut batch = Batch::new();
+        for line in lines {
+            batch.push(line.clone());
+        }
+        batch
+    }
+
+    /// One line more.
+    pub fn push(&mut self, line: Vec<u8>) {
+        let answer = self.oracle.line(&line);
+        self.expected.push(text(&answer));
+        if let Some(fault) = answer.fault {
+            self.faults.push((self.lines.len(), fault));
+        }
+        self.lines.push(line);
+    }
+
+    /// The runs of a seed, one after the other, until there are `count` lines.
+    pub fn random(seed: u64, count: usize) -> Batch {
+        let mut batch = Batch::new();
+        let mut prng = Prng::new(seed);
+        while batch.lines.len() < count {
+            let mut run = Generator::new(prng.next(), batch.lines.is_empty());
+            while let Some(line) = run.next(&batch.oracle) {
+                batch.push(line);
+            }
+        }
+        batch
+    }
+}

@@ -1,0 +1,38 @@
+//! The header of a frame that came in, by document 01's questions 9 to 12: not the Rust's reader.
+use crate::check_sequence::{bit, is_right};
+
+/// A header that was read.
+pub struct Header {
+    /// N(R), if it has one.
+    pub nr: Option<u8>,
+    /// N(S), if it has one.
+    pub ns: Option<u8>,
+    /// Has it an FCS?
+    pub has_fcs: bool,
+}
+
+/// The header of a frame of `count` bits, or the number.
+pub fn read(bits: &[u8], count: usize) -> Result<Header, u8> {
+    if count < 4 {
+        return Err(9);
+    }
+    if bit(bits, 0) == 1 {
+        return Err(10);
+    }
+    let has_fcs = bit(bits, 1) == 1;
+    let kind = bit(bits, 2) << 1 | bit(bits, 3);
+    let (nr_at, ns_at, len) = match kind {
+        0 => (Some(4), Some(5), 6),
+        1 => (None, Some(4), 5),
+        2 => (None, None, 4),
+        _ => (Some(4), None, 5),
+    };
+    if count < len {
+        return Err(11);
+    }
+    if has_fcs && !is_right(bits, len, count) {
+        return Err(12);
+    }
+    let value = |at: Option<usize>| at.map(|at| bit(bits, at) as u8);
+    Ok(Header { nr: value(nr_at), ns: value(ns_at), has_fcs })
+}

@@ -1,0 +1,85 @@
+//! A run whose tick ends give as many and as long records as there can be: every place of every queue is in use.
+use crate::call::{Call, Frame, Request};
+use crate::oracle::{DUE, MESSAGES, UNACKNOWLEDGED};
+use tetra_core::TdmaTime;
+
+/// The carrier.
+const CARRIER: u16 = 0x05fa;
+
+/// A request with everything that makes its record long.
+fn request(ssi: u32, flags: u8, receipt: u8) -> Call {
+    let mut bits = vec![receipt ^ 0xa5; 325];
+    bits[324] &= 0xe0;
+    Call::Data(Request {
+        ssi,
+        kind: 1,
+        carrier_given: 1,
+        carrier: CARRIER,
+        link: ssi,
+        endpoint: !ssi,
+        handle: ssi << 8,
+        flags: flags | 6,
+        mask: receipt & 15,
+        receipt,
+        block: vec![receipt; 64],
+        bit_count: 2595,
+        bits,
+    })
+}
+
+/// BL-DATA with N(S) 1 and nothing behind it.
+fn frame(ssi: u32) -> Call {
+    Call::Frame(Frame {
+        ssi,
+        kind: 1,
+        carrier: CARRIER,
+        link: 1,
+        endpoint: 2,
+        block: vec![9; 64],
+        bit_count: 5,
+        bits: vec![0x18],
+    })
+}
+
+/// The tick start of a slot.
+fn time(slot: i32) -> Call {
+    let TdmaTime { h, m, f, t } = TdmaTime::from_int(slot);
+    Call::TickStart { h, m, f, t }
+}
+
+/// The unacknowledged messages, each with an acknowledgement to carry, and then as many due as there can be.
+fn unacknowledged_and_due() -> Vec<Call> {
+    let mut calls = Vec::new();
+    for at in 0..UNACKNOWLEDGED {
+        let ssi = 0x20_0000 + at as u32;
+        calls.push(frame(ssi));
+        calls.push(request(ssi, 1, (MESSAGES + at) as u8));
+    }
+    calls.extend((0..DUE).map(|at| frame(0x30_0000 + at as u32)));
+    calls
+}
+
+/// The run: all are sent, and then all are sent three times again and are gone.
+pub fn run() -> Vec<Call> {
+    let mut calls = vec![Call::Start { carrier: 1, t251: 4 }];
+    for at in 0..MESSAGES {
+        let ssi = 0x10_0000 + at as u32;
+        calls.push(frame(ssi));
+        calls.push(request(ssi, 0, at as u8));
+    }
+    for turn in 0..5 {
+        calls.push(time(turn * 8));
+        calls.extend(unacknowledged_and_due());
+        // One more of each.
+        calls.extend([frame(0), request(0x10_0000, 0, 127), request(0x10_0000, 1, 127)]);
+        calls.push(Call::TickEnd);
+        for receipt in 0..(MESSAGES + UNACKNOWLEDGED) as u8 {
+            calls.push(Call::Report { receipt, value: 1 });
+        }
+        for receipt in 0..(MESSAGES + UNACKNOWLEDGED) as u8 {
+            calls.push(Call::Release { receipt });
+        }
+        calls.push(Call::TickEnd);
+    }
+    calls
+}

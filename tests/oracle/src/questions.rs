@@ -1,0 +1,178 @@
+//! Document 01's questions 4 to 16, read plainly. What they are put to is the Rust's own queues and receipts.
+use crate::call::{Call, Frame, Request};
+use crate::caught::caught;
+use crate::header::{self, Header};
+use crate::message;
+use crate::oracle::{DUE, MESSAGES, Oracle, RECEIPTS, ROWS, Started, UNACKNOWLEDGED, is_on, is_under_way, mark};
+use tetra_core::TxState;
+use tetra_entities::llc::llc_bs_ms::ExpectedInAck;
+use tetra_entities::{MessageQueue, TetraEntityTrait};
+
+impl Oracle {
+    /// Questions 4 to 16.
+    pub fn number(&mut self, call: &Call, fault: &mut Option<String>) -> u8 {
+        if self.link.is_none() && !matches!(call, Call::Start { .. }) {
+            return 4;
+        }
+        if !in_range(call) {
+            match call {
+                Call::Data(r) | Call::Unitdata(r) if r.bit_count == 2596 => self.coverage.count("SDU of 2,596 bits"),
+                Call::Data(r) | Call::Unitdata(r) if self.receipts.get(r.receipt as usize).is_some_and(|held| held.is_some()) => {
+                    self.coverage.count("5 with a taken receipt")
+                }
+                Call::Frame(f) if f.bit_count == 2634 => self.coverage.count("frame of 2,634 bits"),
+                _ => {}
+            }
+            return 5;
+        }
+        match call {
+            Call::Start { .. } | Call::TickStart { .. } | Call::TickEnd => 0,
+            Call::Data(request) => self.request_number(request, request.kind == 1 && request.flags & 1 == 0),
+            Call::Unitdata(request) => self.request_number(request, false),
+            Call::Frame(frame) => self.frame_number(frame, fault),
+            Call::Report { receipt, value } => self.report_number(*receipt, *value, fault),
+            Call::Release { receipt } => self.release_number(*receipt),
+        }
+    }
+
+    /// Questions 6 to 8.
+    fn request_number(&mut self, request: &Request, is_acknowledged: bool) -> u8 {
+        let Some(started) = &self.link else {
+            return 4;
+        };
+        let is_full = if is_acknowledged {
+            started.llc.messages().len() >= MESSAGES
+        } else {
+            started.llc.unacknowledged().len() >= UNACKNOWLEDGED
+        };
+        if self.receipts[request.receipt as usize].is_some() {
+            if is_full {
+                self.coverage.count("6 with a full queue");
+            }
+            return 6;
+        }
+        let rows = started.llc.rows();
+        if is_acknowledged && !rows.contains_key(&request.ssi) && rows.len() >= ROWS {
+            if is_full {
+                self.coverage.count("7 with 64 messages");
+            }
+            return 7;
+        }
+        if is_full {
+            self.coverage.count(if is_acknowledged { "8 with 64 messages" } else { "8 with 32 messages" });
+            return 8;
+        }
+        0
+    }
+
+    /// Questions 9 to 14. The Rust has to return silently for 9 to 12, and to panic for 14.
+    fn frame_number(&mut self, frame: &Frame, fault: &mut Option<String>) -> u8 {
+        let Some(started) = &mut self.link else {
+            return 4;
+        };
+        let header = match header::read(&frame.bits, frame.bit_count as usize) {
+            Ok(header) => header,
+            Err(number) => {
+                let before = started.llc.picture();
+                let mut queue = MessageQueue::new();
+                let fed = caught(|| started.llc.rx_prim(&mut queue, message::frame(frame)));
+                if fed.is_none() || queue.pop_front().is_some() || started.llc.picture() != before {
+                    *fault = Some(format!("the Rust does not return silently where the number is {number}"));
+                }
+                self.coverage.count("the Rust returned silently");
+                if number == 12 && started.llc.due().len() >= DUE {
+                    self.coverage.count("12 with 64 due");
+                }
+                return number;
+            }
+        };
+        let is_wrong = |m: &ExpectedInAck| m.tx_reporter.get_state() != TxState::Transmitted;
+        let is_panic = finished_by(started, frame, &header).is_some_and(is_wrong);
+        if header.ns.is_some() && started.llc.due().len() >= DUE {
+            if is_panic {
+                self.coverage.count("13 where N(R) meets a discarded message");
+            }
+            return 13;
+        }
+        if is_panic {
+            let mut copy = started.llc.throw_away();
+            let fed = caught(|| copy.rx_prim(&mut MessageQueue::new(), message::frame(frame)));
+            if fed.is_some() {
+                *fault = Some("the Rust does not panic where the number is 14".into());
+            }
+            self.coverage.count("the Rust panicked for 14");
+            return 14;
+        }
+        0
+    }
+
+    /// Question 15. The Rust has to panic on a receipt that is not Pending.
+    fn report_number(&mut self, receipt: u8, value: u8, fault: &mut Option<String>) -> u8 {
+        let (Some(started), Some(reporter)) = (&self.link, &self.receipts[receipt as usize]) else {
+            return 15;
+        };
+        if reporter.get_state() != TxState::Pending {
+            if caught(|| mark(reporter, value)).is_some() {
+                *fault = Some("the Rust takes a mark where the number is 15".into());
+            }
+            self.coverage.count("the Rust panicked for 15");
+            return 15;
+        }
+        let waits = |m: &ExpectedInAck| m.tx_reporter.is_same(reporter) && m.t_submitted_to_umac.is_none();
+        if started.llc.messages().iter().any(waits) || started.llc.unacknowledged().iter().any(|m| is_on(m, reporter)) {
+            self.coverage.count("report on a waiting message");
+            return 15;
+        }
+        0
+    }
+
+    /// Question 16.
+    fn release_number(&mut self, receipt: u8) -> u8 {
+        let (Some(started), Some(reporter)) = (&self.link, &self.receipts[receipt as usize]) else {
+            return 16;
+        };
+        let is_held = started.llc.messages().iter().any(|m| m.tx_reporter.is_same(reporter))
+            || started.llc.unacknowledged().iter().any(|m| is_on(m, reporter));
+        if is_held || !reporter.is_in_final_state() {
+            return 16;
+        }
+        self.coverage.count(match reporter.get_state() {
+            TxState::Pending => "released pending",
+            TxState::Discarded => "released discarded",
+            TxState::Transmitted => "released transmitted",
+            TxState::Lost => "released lost",
+            TxState::Acknowledged => "released acknowledged",
+        });
+        0
+    }
+}
+
+/// The message that N(R) of a frame would finish: under way, on the frame's carrier, with a done time and N(S) equal to N(R).
+fn finished_by<'a>(started: &'a Started, frame: &Frame, header: &Header) -> Option<&'a ExpectedInAck> {
+    let nr = header.nr?;
+    let message = started.llc.messages().iter().find(|m| is_under_way(m, frame.ssi))?;
+    (message.carrier_num == frame.carrier && message.t_umac_done.is_some() && message.ns == nr).then_some(message)
+}
+
+/// Question 5.
+fn in_range(call: &Call) -> bool {
+    match call {
+        Call::Start { t251, .. } => *t251 != 0,
+        Call::TickStart { m, f, t, .. } => (1..=60).contains(m) && (1..=18).contains(f) && (1..=4).contains(t),
+        Call::TickEnd => true,
+        Call::Data(r) | Call::Unitdata(r) => {
+            (1..=2).contains(&r.kind)
+                && r.carrier_given < 2
+                && r.flags < 8
+                && (r.receipt as usize) < RECEIPTS
+                && r.mask < 16
+                && (r.mask == 0 || r.flags & 4 != 0)
+                && (r.carrier == 0 || r.carrier_given == 1)
+                && r.block.len() <= 64
+                && r.bit_count <= 2595
+        }
+        Call::Frame(f) => (1..=2).contains(&f.kind) && f.block.len() <= 64 && f.bit_count <= 2633,
+        Call::Report { receipt, value } => (*receipt as usize) < RECEIPTS && (1..=2).contains(value),
+        Call::Release { receipt } => (*receipt as usize) < RECEIPTS,
+    }
+}
