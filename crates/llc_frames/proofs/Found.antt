@@ -16,7 +16,7 @@ use Rattle.llc_rule.specs.Lists.{all, Found, nothing, first, behind, find}
 use Rattle.llc_rule.specs.Ranges.{isType, isReceipt}
 use Rattle.llc_rule.proofs.Lists.{by-test, both, if-true, if-false}
 use Rattle.llc_state.specs.Ranges.{isSsi, entryInRange}
-use Rattle.llc_state.specs.Receipts.{placeOf, markReceipt}
+use Rattle.llc_state.specs.Receipts.{receiptOf, placeOf, markReceipt}
 use Rattle.llc_state.specs.declared.Entry.{Entry}
 use Rattle.llc_state.specs.declared.ReceiptPlace.{ReceiptPlace}
 use Rattle.llc_state.specs.declared.State.{State}
@@ -111,11 +111,11 @@ module _ (s : State) (i : ℕ) (nr : Bool) (long : s .«n_messages» ≤ length 
     finishes :
         (b : Bool)
         → fits nr entry ≡ b
-        → not b || (placeOf (s .receipts) (entry .receipt) .taken && is Transmitted (placeOf (s .receipts) (entry .receipt) .receipt))
+        → not b || (placeOf (s .receipts) (entry .receipt) .taken && is Transmitted (receiptOf (placeOf (s .receipts) (entry .receipt))))
         ≡ finishable nr (foundAt i (messagesOf s)) s
     finishes b e =
         let place : ReceiptPlace = placeOf (s .receipts) (entry .receipt) in
-        sym (ap (λ (f : Found Entry). finishable nr f s) found ∙ ap (λ (t : Bool). not t || (place .taken && is Transmitted (place .receipt))) e)
+        sym (ap (λ (f : Found Entry). finishable nr f s) found ∙ ap (λ (t : Bool). not t || (place .taken && is Transmitted (receiptOf place))) e)
 
     pub unfit-finishes : fits nr entry ≡ false → true ≡ finishable nr (foundAt i (messagesOf s)) s
     unfit-finishes e = finishes false e
@@ -123,7 +123,7 @@ module _ (s : State) (i : ℕ) (nr : Bool) (long : s .«n_messages» ≤ length 
     pub fit-finishes :
         (raw : ℕ) {state : TxState}
         → fits nr entry ≡ true
-        → state ≡ placeOf (s .receipts) (entry .receipt) .receipt .state
+        → state ≡ receiptOf (placeOf (s .receipts) (entry .receipt)) .state
         → raw ≡ number state
         → placeOf (s .receipts) (entry .receipt) .taken && eqb raw 2 ≡ finishable nr (foundAt i (messagesOf s)) s
     fit-finishes raw e f g =

@@ -12,7 +12,7 @@ use Rattle.tx_receipt.specs.declared.TxState.{TxState}
 use Rattle.tx_receipt.specs.declared.TxState.the-variants.{Pending, Discarded, Transmitted}
 use Rattle.llc_rule.specs.Records.{allBytes}
 use Rattle.llc_rule.proofs.Lists.{and-true, and-false}
-use Rattle.llc_state.specs.Receipts.{placeOf, mark, withPlaces}
+use Rattle.llc_state.specs.Receipts.{receiptOf, placeOf, mark, withPlaces}
 use Rattle.llc_state.specs.States.{noReceipt}
 use Rattle.llc_state.specs.declared.ReceiptPlace.{ReceiptPlace}
 use Rattle.llc_state.specs.declared.State.{State}
@@ -46,10 +46,10 @@ accepted-any s t o e f =
 
 -- Is a receipt taken and Pending, or final?
 abbrev pub isPending : State → ℕ → Bool
-isPending s i = placeOf (s .receipts) i .taken && is Pending (placeOf (s .receipts) i .receipt)
+isPending s i = placeOf (s .receipts) i .taken && is Pending (receiptOf (placeOf (s .receipts) i))
 
 abbrev pub isFinal : State → ℕ → Bool
-isFinal s i = placeOf (s .receipts) i .taken && final (placeOf (s .receipts) i .receipt)
+isFinal s i = placeOf (s .receipts) i .taken && final (receiptOf (placeOf (s .receipts) i))
 
 module _ (s : State) (i : ℕ) {r : Answer} where
   pub not-pending : (how : ℕ) → isPending s i ≡ false → r ≡ answer 15 s 0 → WithAny r s (λ (store : List ℕ). onReport i how s store)

@@ -184,7 +184,7 @@ fn may_finish(state: State, i: usize, nr: bool) -> bool
     }
     let receipt = e.receipt as usize;
     let place = state.receipts[receipt];
-    let tx = place.receipt;
+    let tx = place.receipt();
     place.taken & (tx.get_state().raw() == 2)
 }
 

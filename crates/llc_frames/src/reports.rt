@@ -20,7 +20,7 @@ pub fn rx_tma_report_ind(state: State, receipt: u8, how: u8) -> Answer
 {
     let i = receipt as usize;
     let place = state.receipts[i];
-    let tx = place.receipt;
+    let tx = place.receipt();
     if !(place.taken & (tx.get_state().raw() == 0)) {
         return Answer::refused(15, state);
     }
@@ -41,7 +41,7 @@ pub fn release(state: State, receipt: u8) -> Answer
 {
     let i = receipt as usize;
     let place = state.receipts[i];
-    let tx = place.receipt;
+    let tx = place.receipt();
     if !(place.taken & tx.is_in_final_state()) {
         return Answer::refused(16, state);
     }

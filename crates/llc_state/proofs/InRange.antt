@@ -8,7 +8,7 @@ use lib.ListN.{take}
 use Rattle.tdma_time.specs.Slots.{valid}
 use Rattle.llc_rule.specs.Lists.{all}
 use Rattle.llc_rule.proofs.Lists.{both}
-use Rattle.llc_state.specs.Ranges.{entryInRange, ackInRange, rowInRange, headInRange, inRange}
+use Rattle.llc_state.specs.Ranges.{entryInRange, ackInRange, rowInRange, placeInRange, headInRange, inRange}
 use Rattle.llc_state.specs.declared.State.{State}
 
 -- The counts, the time and T251.
@@ -56,16 +56,18 @@ pub record InRange (s : State) : Type 0 where
   pub udata : all entryInRange (take (s .«n_udata») (s .«outbound_udata_messages»)) ≡ true
   pub acks : all ackInRange (take (s .«n_acks») (s .«scheduled_out_acks»)) ≡ true
   pub rows : all rowInRange (take (s .«n_rows») (s .«link_send_seq»)) ≡ true
+  pub places : all placeInRange (s .receipts) ≡ true
 
 pub range-tells : (s : State) → inRange s ≡ true → InRange s
 unfolding inRange
 range-tells s h =
-    let d = both {y = all rowInRange (take (s .«n_rows») (s .«link_send_seq»))} h in
+    let e = both {y = all placeInRange (s .receipts)} h in
+    let d = both {y = all rowInRange (take (s .«n_rows») (s .«link_send_seq»))} (e .0) in
     let c = both {y = all ackInRange (take (s .«n_acks») (s .«scheduled_out_acks»))} (d .0) in
     let b = both {y = all entryInRange (take (s .«n_udata») (s .«outbound_udata_messages»))} (c .0) in
     let a = both {y = all entryInRange (take (s .«n_messages») (s .«outbound_messages»))} (b .0) in
-    record { head = head-tells s (a .0); messages = a .1; udata = b .1; acks = c .1; rows = d .1 }
+    record { head = head-tells s (a .0); messages = a .1; udata = b .1; acks = c .1; rows = d .1; places = e .1 }
 
 pub in-range : (s : State) → InRange s → inRange s ≡ true
 unfolding inRange
-in-range s r = rw (head-holds s (r .head), r .messages, r .udata, r .acks, r .rows)
+in-range s r = rw (head-holds s (r .head), r .messages, r .udata, r .acks, r .rows, r .places)

@@ -9,7 +9,7 @@ use Rattle.tdma_time.specs.declared.TdmaTime.{TdmaTime}
 use Rattle.llc_rule.specs.Lists.{all}
 use Rattle.llc_rule.specs.Messages.{noReceipts}
 use Rattle.llc_rule.specs.Link.{new, startedWith, withTime}
-use Rattle.llc_state.specs.Ranges.{headInRange, inRange}
+use Rattle.llc_state.specs.Ranges.{placeInRange, headInRange, inRange}
 use Rattle.llc_state.specs.States.{emptyState, newState, startedState, atTime}
 use Rattle.llc_state.specs.View.{placeIn, linkIn}
 use Rattle.llc_state.specs.declared.State.{State}
@@ -28,11 +28,11 @@ unfolding linkIn
 time-in s ts store = refl
 
 pub new-in-range : inRange newState ≡ true
-unfolding inRange headInRange emptyState all valid
+unfolding inRange headInRange placeInRange emptyState all valid
 new-in-range = refl
 
 pub started-in-range : (carrier t251 : ℕ) → ltb 0 t251 ≡ true → inRange (startedState carrier t251) ≡ true
-unfolding inRange headInRange emptyState all valid
+unfolding inRange headInRange placeInRange emptyState all valid
 started-in-range carrier t251 h = rw h
 
 pub time-in-range : (s : State) (ts : TdmaTime) → inRange s ≡ true → valid ts ≡ true → inRange (atTime s ts) ≡ true
@@ -46,4 +46,5 @@ time-in-range s ts h v =
       udata = r .udata;
       acks = r .acks;
       rows = r .rows;
+      places = r .places;
     })

@@ -8,6 +8,7 @@ use Rattle.llc_rule.specs.Lists.{all}
 use Rattle.llc_rule.specs.Ranges.{isType, isReceipt}
 use Rattle.llc_state.specs.declared.Entry.{Entry}
 use Rattle.llc_state.specs.declared.ScheduledOutAck.{ScheduledOutAck}
+use Rattle.llc_state.specs.declared.ReceiptPlace.{ReceiptPlace}
 use Rattle.llc_state.specs.declared.LinkSendSeq.{LinkSendSeq}
 use Rattle.llc_state.specs.declared.State.{State}
 
@@ -31,6 +32,10 @@ entryInRange e =
 unfoldable pub ackInRange : ScheduledOutAck → Bool
 ackInRange a = isSsi (a .ssi) && isType (a .«ssi_type») && leb 1 (a .ts) && leb (a .ts) 4
 
+-- A receipt that is taken is in one of the five states.
+unfoldable pub placeInRange : ReceiptPlace → Bool
+placeInRange p = not (p .taken) || ltb (p .state) 5
+
 unfoldable pub rowInRange : LinkSendSeq → Bool
 rowInRange r = isSsi (r .ssi)
 
@@ -52,3 +57,4 @@ inRange s =
     && all entryInRange (take (s .«n_udata») (s .«outbound_udata_messages»))
     && all ackInRange (take (s .«n_acks») (s .«scheduled_out_acks»))
     && all rowInRange (take (s .«n_rows») (s .«link_send_seq»))
+    && all placeInRange (s .receipts)

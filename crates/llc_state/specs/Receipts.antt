@@ -3,9 +3,10 @@ use Prim.Native.Nat.{ℕ}
 use mathlib.Core.Bool.{Bool, true, cond}
 use mathlib.Core.List.{List}
 use lib.ListN.{getD, set}
-use Rattle.tx_receipt.specs.Marks.{at}
+use Rattle.tx_receipt.specs.States.{number, numbered}
 use Rattle.tx_receipt.specs.declared.TxState.{TxState}
 use Rattle.tx_receipt.specs.declared.TxState.the-variants.{Pending}
+use Rattle.tx_receipt.specs.declared.TxReceipt.{TxReceipt}
 use Rattle.llc_state.specs.declared.ReceiptPlace.{ReceiptPlace}
 use Rattle.llc_state.specs.declared.State.{State}
 use Rattle.llc_state.specs.States.{noReceipt}
@@ -29,12 +30,17 @@ withPlaces s ps =
       «link_send_seq» = s .«link_send_seq»;
     }
 
+-- The receipt of a place.
+abbrev pub receiptOf : ReceiptPlace → TxReceipt
+receiptOf p = record { «expects_ack» = p .«expects_ack»; state = numbered (p .state) }
+
 -- A place whose receipt is in another state, if it is taken; a place that is taken anew.
 abbrev pub markedPlace : TxState → ReceiptPlace → ReceiptPlace
-markedPlace state p = cond (p .taken) (record { taken = true; receipt = at state (p .receipt) }) p
+markedPlace state p =
+    cond (p .taken) (record { taken = true; «expects_ack» = p .«expects_ack»; state = number state }) p
 
 abbrev pub pendingPlace : Bool → ReceiptPlace
-pendingPlace expects = record { taken = true; receipt = record { «expects_ack» = expects; state = Pending } }
+pendingPlace expects = record { taken = true; «expects_ack» = expects; state = number Pending }
 
 -- The place with a number, and the places with the receipt there marked if it is taken.
 abbrev pub placeOf : List ReceiptPlace → ℕ → ReceiptPlace

@@ -4,7 +4,6 @@ use mathlib.Core.Bool.{Bool, true, false}
 use lib.ListN.{replicate}
 use Rattle.tdma_time.specs.Slots.{first}
 use Rattle.tdma_time.specs.declared.TdmaTime.{TdmaTime}
-use Rattle.tx_receipt.specs.declared.TxState.the-variants.{Pending}
 use Rattle.llc_state.specs.declared.Entry.{Entry}
 use Rattle.llc_state.specs.declared.ScheduledOutAck.{ScheduledOutAck}
 use Rattle.llc_state.specs.declared.ReceiptPlace.{ReceiptPlace}
@@ -40,7 +39,7 @@ abbrev pub noAck : ScheduledOutAck
 noAck = record { ssi = 0; «ssi_type» = 0; «carrier_num» = 0; nr = false; ts = 0 }
 
 abbrev pub noReceipt : ReceiptPlace
-noReceipt = record { taken = false; receipt = record { «expects_ack» = false; state = Pending } }
+noReceipt = record { taken = false; «expects_ack» = false; state = 0 }
 
 abbrev pub noRow : LinkSendSeq
 noRow = record { ssi = 0; vs = false }

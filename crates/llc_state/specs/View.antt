@@ -8,6 +8,7 @@ use Rattle.bits.specs.Bits.{part}
 use Rattle.llc_rule.specs.Records.{Sent}
 use Rattle.llc_rule.specs.Messages.{Message, Due, Place, free, taken}
 use Rattle.llc_rule.specs.Link.{Link, Row}
+use Rattle.llc_state.specs.Receipts.{receiptOf}
 use Rattle.llc_state.specs.declared.Entry.{Entry}
 use Rattle.llc_state.specs.declared.ScheduledOutAck.{ScheduledOutAck}
 use Rattle.llc_state.specs.declared.ReceiptPlace.{ReceiptPlace}
@@ -56,7 +57,7 @@ dueIn a = record { ssi = a .ssi; type = a .«ssi_type»; carrier = a .«carrier_
 
 -- The place of a receipt, and an address row.
 unfoldable pub placeIn : ReceiptPlace → Place
-placeIn p = cond (p .taken) (taken (p .receipt)) free
+placeIn p = cond (p .taken) (taken (receiptOf p)) free
 
 unfoldable pub rowIn : LinkSendSeq → Row
 rowIn r = record { ssi = r .ssi; bit = r .vs }

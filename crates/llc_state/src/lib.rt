@@ -5,7 +5,6 @@ mod starts;
 
 pub use starts::NEW;
 use tdma_time::TdmaTime;
-use tx_receipt::TxReceipt;
 
 /// A message that the link holds. Its frame's bits lie in the store.
 #[repr(C)]
@@ -59,7 +58,9 @@ pub struct ScheduledOutAck {
 #[repr(C)]
 pub struct ReceiptPlace {
     pub taken: bool,
-    pub receipt: TxReceipt,
+    pub expects_ack: bool,
+    /// The number of the receipt's state.
+    pub state: u8,
 }
 
 /// The send sequence variable of an SSI.

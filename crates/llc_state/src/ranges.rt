@@ -1,8 +1,9 @@
 // Question 1 of a state's counts and values in use.
 ghost use mathlib.Core.Path.{_≡_};
-ghost use Rattle.llc_state.specs.Ranges.{entryInRange, ackInRange, rowInRange, headInRange, inRange};
+ghost use Rattle.llc_state.specs.Ranges.{entryInRange, ackInRange, placeInRange, rowInRange, headInRange, inRange};
 use crate::Entry;
 use crate::LinkSendSeq;
+use crate::ReceiptPlace;
 use crate::ScheduledOutAck;
 use crate::State;
 
@@ -27,6 +28,13 @@ fn ack_in_range(a: ScheduledOutAck) -> bool
     ensures { λ r. ⌜ r ≡ ackInRange a ⌝ }
 {
     (a.ssi < 16_777_216) & ((a.ssi_type == 1) | (a.ssi_type == 2)) & (1 <= a.ts) & (a.ts <= 4)
+}
+
+// The place of a receipt.
+fn place_in_range(place: ReceiptPlace) -> bool
+    ensures { λ r. ⌜ r ≡ placeInRange place ⌝ }
+{
+    !place.taken | (place.state < 5)
 }
 
 // An address row.
@@ -83,6 +91,13 @@ impl State {
                 return false;
             }
             m += 1;
+        }
+        let mut p = 0;
+        while p < 128 {
+            if !place_in_range(self.receipts[p]) {
+                return false;
+            }
+            p += 1;
         }
         true
     }

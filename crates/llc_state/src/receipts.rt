@@ -1,27 +1,34 @@
 // The receipts of a state, by their numbers.
 ghost use mathlib.Core.Path.{_≡_};
 ghost use Prim.Native.Nat.{_<_};
-ghost use Rattle.llc_state.specs.Receipts.{markedPlace, markReceipt, takeReceipt, freeReceipt};
+ghost use Rattle.llc_state.specs.Receipts.{receiptOf, markedPlace, markReceipt, takeReceipt, freeReceipt};
 use crate::ReceiptPlace;
 use crate::State;
 use tx_receipt::TxReceipt;
 use tx_receipt::TxState;
 
 impl ReceiptPlace {
+    /// The receipt of the place.
+    pub fn receipt(self) -> TxReceipt
+        ensures { λ r. ⌜ r ≡ receiptOf self ⌝ }
+    {
+        TxReceipt {
+            expects_ack: self.expects_ack,
+            state: TxState::from_raw(self.state),
+        }
+    }
+
     /// The place with its receipt in another state, if it is taken.
     pub fn marked(self, state: TxState) -> ReceiptPlace
         ensures { λ r. ⌜ r ≡ markedPlace state self ⌝ }
     {
-        let receipt = self.receipt;
         if !self.taken {
             return self;
         }
         ReceiptPlace {
             taken: true,
-            receipt: TxReceipt {
-                expects_ack: receipt.expects_ack,
-                state,
-            },
+            expects_ack: self.expects_ack,
+            state: state.raw(),
         }
     }
 }
@@ -46,10 +53,8 @@ impl State {
         let mut next = self;
         next.receipts[i] = ReceiptPlace {
             taken: true,
-            receipt: TxReceipt {
-                expects_ack,
-                state: TxState::Pending,
-            },
+            expects_ack,
+            state: 0,
         };
         next
     }

@@ -7,8 +7,6 @@ use crate::ReceiptPlace;
 use crate::ScheduledOutAck;
 use crate::State;
 use tdma_time::TdmaTime;
-use tx_receipt::TxReceipt;
-use tx_receipt::TxState;
 
 // The first time.
 const FIRST: TdmaTime = TdmaTime {
@@ -52,10 +50,8 @@ const NO_ACK: ScheduledOutAck = ScheduledOutAck {
 
 const NO_RECEIPT: ReceiptPlace = ReceiptPlace {
     taken: false,
-    receipt: TxReceipt {
-        expects_ack: false,
-        state: TxState::Pending,
-    },
+    expects_ack: false,
+    state: 0,
 };
 
 const NO_ROW: LinkSendSeq = LinkSendSeq { ssi: 0, vs: false };

@@ -25,7 +25,7 @@ use Rattle.llc_state.specs.declared.ScheduledOutAck.{ScheduledOutAck}
 use Rattle.llc_state.specs.declared.ReceiptPlace.{ReceiptPlace}
 use Rattle.llc_state.specs.declared.State.{State}
 use Rattle.llc_steps.specs.States.{messagesOf, udataOf, acksOf, rowsOf, relaid, Kept}
-use Rattle.llc_state.specs.Receipts.{placeOf, mark}
+use Rattle.llc_state.specs.Receipts.{receiptOf, placeOf, mark}
 use Rattle.llc_state.proofs.Places.{mark-in, taken-in}
 use Rattle.llc_steps.specs.Calls.{ackRoom, scheduled, expected, fits, finishable, mayFinish, answeredBy, answered, onReceived, held, waits, withReceipts, onReport, onRelease}
 use Rattle.llc_state.specs.States.{noReceipt}
@@ -67,7 +67,7 @@ module _ (s : State) (store : List ℕ) where
   unfolding onReport Step.onReport keptIn linkIn
   report-in i how =
       let ps : List ReceiptPlace = s .receipts in
-      kept-ask 15 (placeOf ps i .taken && is Pending (placeOf ps i .receipt) && not (waits i s)) _
+      kept-ask 15 (placeOf ps i .taken && is Pending (receiptOf (placeOf ps i)) && not (waits i s)) _
       ∙ ap₂ (λ (b : Bool) (l : Link.Link). ask 15 b (accepted (done l [])))
       (ap₂ (λ (x y : Bool). x && not y) (taken-in (is Pending) ps i) (sym (waits-in i)))
       (receipts-in (cond (eqb how 1) (mark Transmitted i ps) (mark Discarded i ps))
@@ -79,7 +79,7 @@ module _ (s : State) (store : List ℕ) where
   unfolding onRelease Step.onRelease keptIn linkIn
   release-in i =
       let ps : List ReceiptPlace = s .receipts in
-      kept-ask 16 (placeOf ps i .taken && final (placeOf ps i .receipt) && not (held i s)) _
+      kept-ask 16 (placeOf ps i .taken && final (receiptOf (placeOf ps i)) && not (held i s)) _
       ∙ ap₂ (λ (b : Bool) (l : Link.Link). ask 16 b (accepted (done l [])))
       (ap₂ (λ (x y : Bool). x && not y) (taken-in final ps i) (sym (held-in i)))
       (receipts-in (set ps i noReceipt)

@@ -59,10 +59,9 @@ with-seq-in a b (r ∷ rs) =
     ∙ ap (λ (t : List Link.Row). cond (eqb (r .ssi) a) (record { ssi = a; bit = b } ∷ map rowIn rs) (rowIn r ∷ t)) (with-seq-in a b rs)
 
 -- Receipts.
-free-by : (b : Bool) (r : TxReceipt) → not b ≡ Rule.isFree (placeIn (record { taken = b; receipt = r }))
+free-by : (p : ReceiptPlace) → not (p .taken) ≡ Rule.isFree (placeIn p)
 unfolding placeIn
-free-by true r = refl
-free-by false r = refl
+free-by p = by-test (p .taken) (λ t. rw t) (λ f. rw f)
 
 pending-in : (b : Bool) → placeIn (pendingPlace b) ≡ Rule.pending b
 unfolding placeIn
@@ -256,7 +255,7 @@ module _ (r : Request) (s : State) (store : List ℕ) (ok : Ready s store) (bloc
   unfolding linkIn
   receipt-in =
       let p : ReceiptPlace = placeOf (s .receipts) (r .receipt) in
-      free-by (p .taken) (p .receipt) ∙ ap Rule.isFree (sym (place-in (s .receipts) (r .receipt)))
+      free-by p ∙ ap Rule.isFree (sym (place-in (s .receipts) (r .receipt)))
 
   row-in : rowFor r s ≡ Step.rowFor r (linkIn s store)
   unfolding rowFor Step.rowFor linkIn rowIn

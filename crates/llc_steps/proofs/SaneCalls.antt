@@ -23,7 +23,7 @@ use Rattle.llc_rule.specs.Ranges.{isType, frameInRange}
 use Rattle.llc_rule.specs.Received.{Received, nsOf, nrOf}
 use Rattle.llc_rule.proofs.Lists.{both, either, FoundBy, find-by}
 use Rattle.llc_state.specs.Ranges.{ackInRange, entryInRange}
-use Rattle.llc_state.specs.Receipts.{placeOf}
+use Rattle.llc_state.specs.Receipts.{receiptOf, placeOf}
 use Rattle.llc_state.specs.States.{noReceipt}
 use Rattle.llc_state.specs.declared.Entry.{Entry}
 use Rattle.llc_state.specs.declared.ScheduledOutAck.{ScheduledOutAck}
@@ -32,7 +32,7 @@ use Rattle.llc_state.specs.declared.State.{State}
 use Rattle.llc_steps.specs.States.{messagesOf, udataOf, acksOf, rowsOf, relaid}
 use Rattle.llc_steps.specs.Calls.{ackRoom, scheduled, expected, fits, mayFinish, answeredBy, answered, onReceived, held, waits, onReport, onRelease}
 use Rattle.llc_steps.specs.Sane.{Sane, SaneAfter}
-use Rattle.llc_steps.proofs.SaneRelaid.{Used, one-more, found-first, behind-first, sane-ready, marked-long, messages-used, udata-used, acks-used, rows-used, relaid-sane, receipts-sane, ask-sane}
+use Rattle.llc_steps.proofs.SaneRelaid.{Used, one-more, found-first, behind-first, sane-ready, Full, places-full, marked-full, freed-full, messages-used, udata-used, acks-used, rows-used, relaid-sane, receipts-sane, ask-sane}
 
 -- Frames ------------------------------------------------------------------------------------------------------------------
 
@@ -66,7 +66,7 @@ module _ (f : Frame) (s : State) (store : List ℕ) (ok : Sane s store) (ssi : f
       (ms : List Entry) (ds : List ScheduledOutAck) (ps : List ReceiptPlace)
       → Used entryInRange 64 ms
       → Used ackInRange 64 ds
-      → length ps ≡ 128
+      → Full ps
       → Sane (relaid s ms (udataOf s) ds ps (rowsOf s)) store
   with-sane ms ds ps m d places =
       relaid-sane s store ok ms (udataOf s) ds ps (rowsOf s) store m (udata-used s store ok) d places (rows-used s store ok) (ok .long)
@@ -78,16 +78,16 @@ module _ (f : Frame) (s : State) (store : List ℕ) (ok : Sane s store) (ssi : f
       → Used ackInRange 64 ds
       → Sane (answeredBy nr x ds s) store
   unfolding answeredBy
-  answered-by-sane nr p nothing ds by d = with-sane (messagesOf s) ds (s .receipts) (messages-used s store ok) d (ok .places)
+  answered-by-sane nr p nothing ds by d = with-sane (messagesOf s) ds (s .receipts) (messages-used s store ok) d (places-full s store ok)
   answered-by-sane nr p (first e es) ds by d =
       let moved = found-first entryInRange 64 p (messagesOf s) e es by (messages-used s store ok) in
       either (λ (t : State). Sane t store) (fits nr e)
-      (with-sane es ds _ (behind-first entryInRange 64 e es moved) d (marked-long Acknowledged (e .receipt) (s .receipts) (ok .places)))
-      (with-sane (e ∷ es) ds (s .receipts) moved d (ok .places))
+      (with-sane es ds _ (behind-first entryInRange 64 e es moved) d (marked-full Acknowledged (e .receipt) (s .receipts) (places-full s store ok)))
+      (with-sane (e ∷ es) ds (s .receipts) moved d (places-full s store ok))
 
   answered-sane : (x : Option Bool) (ds : List ScheduledOutAck) → Used ackInRange 64 ds → Sane (answered f x ds s) store
   unfolding expected
-  answered-sane none ds d = with-sane (messagesOf s) ds (s .receipts) (messages-used s store ok) d (ok .places)
+  answered-sane none ds d = with-sane (messagesOf s) ds (s .receipts) (messages-used s store ok) d (places-full s store ok)
   answered-sane (some nr) ds d = answered-by-sane nr _ (expected f s) ds (find-by _ (messagesOf s)) d
 
   pub received-sane : (x : Outcome Received) → SaneAfter (onReceived f x s store)
@@ -105,15 +105,15 @@ module _ (s : State) (store : List ℕ) (ok : Sane s store) where
   pub report-sane : (i how : ℕ) → SaneAfter (onReport i how s store)
   unfolding onReport
   report-sane i how =
-      ask-sane 15 (placeOf (s .receipts) i .taken && is Pending (placeOf (s .receipts) i .receipt) && not (waits i s)) _
+      ask-sane 15 (placeOf (s .receipts) i .taken && is Pending (receiptOf (placeOf (s .receipts) i)) && not (waits i s)) _
       (λ t.
       receipts-sane s store ok _
-      (either (λ (ps : List ReceiptPlace). length ps ≡ 128) (eqb how 1)
-      (marked-long Transmitted i (s .receipts) (ok .places))
-      (marked-long Discarded i (s .receipts) (ok .places))))
+      (either Full (eqb how 1)
+      (marked-full Transmitted i (s .receipts) (places-full s store ok))
+      (marked-full Discarded i (s .receipts) (places-full s store ok))))
 
   pub release-sane : (i : ℕ) → SaneAfter (onRelease i s store)
   unfolding onRelease
   release-sane i =
-      ask-sane 16 (placeOf (s .receipts) i .taken && final (placeOf (s .receipts) i .receipt) && not (held i s)) _
-      (λ t. receipts-sane s store ok _ (length-set (s .receipts) i noReceipt ∙ ok .places))
+      ask-sane 16 (placeOf (s .receipts) i .taken && final (receiptOf (placeOf (s .receipts) i)) && not (held i s)) _
+      (λ t. receipts-sane s store ok _ (freed-full i (s .receipts) (places-full s store ok)))

@@ -1,20 +1,23 @@
 -- A state that passed question 1 passes it with other elements in use that are in range.
-use Prim.Native.Nat.{ℕ, suc, _*_, _≤_}
+use Prim.Native.Nat.{ℕ, zero, suc, _*_, _≤_}
 use native.Mathlib.Omega.{arith}
 use mathlib.Core.Path.{_≡_, _∙_, refl, ap}
 use mathlib.Core.Bool.{Bool, true, false}
 use mathlib.Core.List.{List, [], _∷_, _++_}
-use lib.ListN.{length, take, length-append, length-set}
+use lib.Dec.{ltb}
+use lib.ListN.{length, set, take, length-append, length-set}
 use lib.Seq.{length-take-le}
 use Rattle.questions.specs.Outcome.{Outcome, ask}
+use Rattle.tx_receipt.specs.States.{number}
 use Rattle.tx_receipt.specs.declared.TxState.{TxState}
+use Rattle.tx_receipt.specs.declared.TxState.the-variants.{Pending, Discarded, Transmitted, Lost, Acknowledged}
 use Rattle.llc_rule.specs.Lists.{all, Found, nothing, first, others}
 use Rattle.llc_rule.specs.Sound.{All}
-use Rattle.llc_rule.proofs.Lists.{both, and-true, all-append, Split, FoundBy}
+use Rattle.llc_rule.proofs.Lists.{by-test, both, and-true, all-append, Split, FoundBy}
 use Rattle.llc_rule.proofs.SoundLists.{all-middle}
-use Rattle.llc_state.specs.Ranges.{entryInRange, ackInRange, rowInRange}
-use Rattle.llc_state.specs.Receipts.{placeOf, markedPlace, mark}
-use Rattle.llc_state.specs.States.{noEntry, noAck, noRow}
+use Rattle.llc_state.specs.Ranges.{entryInRange, ackInRange, rowInRange, placeInRange}
+use Rattle.llc_state.specs.Receipts.{placeOf, pendingPlace, markedPlace, mark}
+use Rattle.llc_state.specs.States.{noEntry, noAck, noReceipt, noRow}
 use Rattle.llc_state.specs.declared.Entry.{Entry}
 use Rattle.llc_state.specs.declared.ScheduledOutAck.{ScheduledOutAck}
 use Rattle.llc_state.specs.declared.ReceiptPlace.{ReceiptPlace}
@@ -85,6 +88,46 @@ module _ {A : Type 0} (p : A → Bool) where
   others-used k q l nothing s u = u
   others-used k q l (first x xs) s u = behind-first k x xs (found-first k q l x xs s u)
 
+-- Receipts' places --------------------------------------------------------------------------------------------------------
+
+-- As many as there are, each in range.
+pub record Full (ps : List ReceiptPlace) : Type 0 where
+  pub long : length ps ≡ 128
+  pub each : all placeInRange ps ≡ true
+
+all-set : {A : Type 0} (p : A → Bool) (l : List A) (i : ℕ) (x : A) → p x ≡ true → all p l ≡ true → all p (set l i x) ≡ true
+unfolding all
+all-set p [] i x e h = refl
+all-set p (y ∷ l) zero x e h = and-true e (both {x = p y} {y = all p l} h .1)
+all-set p (y ∷ l) (suc i) x e h =
+    let t = both {x = p y} {y = all p l} h in and-true (t .0) (all-set p l i x e (t .1))
+
+pub set-full : (i : ℕ) (x : ReceiptPlace) (ps : List ReceiptPlace) → placeInRange x ≡ true → Full ps → Full (set ps i x)
+set-full i x ps e f = record { long = length-set ps i x ∙ f .long; each = all-set placeInRange ps i x e (f .each) }
+
+-- A receipt that was marked, one that is pending, and none.
+marked-in-range : (state : TxState) (p : ReceiptPlace) → placeInRange (markedPlace state p) ≡ true
+unfolding placeInRange
+marked-in-range state p = by-test (p .taken) (λ t. rw t (by-state state)) (λ f. rw f)
+  where
+    by-state : (x : TxState) → ltb (number x) 5 ≡ true
+    by-state Pending = refl
+    by-state Discarded = refl
+    by-state Transmitted = refl
+    by-state Lost = refl
+    by-state Acknowledged = refl
+
+pub marked-full : (state : TxState) (i : ℕ) (ps : List ReceiptPlace) → Full ps → Full (mark state i ps)
+marked-full state i ps f = set-full i (markedPlace state (placeOf ps i)) ps (marked-in-range state (placeOf ps i)) f
+
+pub pending-full : (expects : Bool) (i : ℕ) (ps : List ReceiptPlace) → Full ps → Full (set ps i (pendingPlace expects))
+unfolding placeInRange
+pending-full expects i ps f = set-full i (pendingPlace expects) ps refl f
+
+pub freed-full : (i : ℕ) (ps : List ReceiptPlace) → Full ps → Full (set ps i noReceipt)
+unfolding placeInRange
+freed-full i ps f = set-full i noReceipt ps refl f
+
 -- A state -----------------------------------------------------------------------------------------------------------------
 
 module _ (s : State) (store : List ℕ) (ok : Sane s store) where
@@ -116,13 +159,16 @@ module _ (s : State) (store : List ℕ) (ok : Sane s store) where
       let r = range-tells s (ok .range) in
       used-first rowInRange 256 (s .«n_rows») (s .«link_send_seq») (ok .rows) (r .head .rows) (r .rows)
 
+  pub places-full : Full (s .receipts)
+  places-full = record { long = ok .places; each = range-tells s (ok .range) .places }
+
   -- The state with other elements in use, and a store that is as long.
   pub relaid-sane :
       (ms us : List Entry) (ds : List ScheduledOutAck) (ps : List ReceiptPlace) (rs : List LinkSendSeq) (after : List ℕ)
       → Used entryInRange 64 ms
       → Used entryInRange 32 us
       → Used ackInRange 64 ds
-      → length ps ≡ 128
+      → Full ps
       → Used rowInRange 256 rs
       → length after ≡ 8 * 32256
       → Sane (relaid s ms us ds ps rs) after
@@ -139,7 +185,7 @@ module _ (s : State) (store : List ℕ) (ok : Sane s store) where
             ∙ ok .udata;
         acks =
             length-laid noAck (s .«n_acks») ds (s .«scheduled_out_acks») (omega (arith, ok .acks, q .acks)) (omega (arith, ok .acks, d .few)) ∙ ok .acks;
-        places = places;
+        places = places .long;
         rows =
             length-laid noRow (s .«n_rows») rs (s .«link_send_seq») (omega (arith, ok .rows, q .rows)) (omega (arith, ok .rows, w .few)) ∙ ok .rows;
         range =
@@ -151,20 +197,17 @@ module _ (s : State) (store : List ℕ) (ok : Sane s store) where
               udata = ap (all entryInRange) (take-laid noEntry (s .«n_udata») us (s .«outbound_udata_messages»)) ∙ each-all entryInRange us (u .each);
               acks = ap (all ackInRange) (take-laid noAck (s .«n_acks») ds (s .«scheduled_out_acks»)) ∙ each-all ackInRange ds (d .each);
               rows = ap (all rowInRange) (take-laid noRow (s .«n_rows») rs (s .«link_send_seq»)) ∙ each-all rowInRange rs (w .each);
+              places = places .each;
             });
         long = long;
       }
 
   -- With other receipts alone.
-  pub receipts-sane : (ps : List ReceiptPlace) → length ps ≡ 128 → Sane (relaid s (messagesOf s) (udataOf s) (acksOf s) ps (rowsOf s)) store
+  pub receipts-sane : (ps : List ReceiptPlace) → Full ps → Sane (relaid s (messagesOf s) (udataOf s) (acksOf s) ps (rowsOf s)) store
   receipts-sane ps places =
       relaid-sane (messagesOf s) (udataOf s) (acksOf s) ps (rowsOf s) store messages-used udata-used acks-used places rows-used (ok .long)
 
 -- Calls -------------------------------------------------------------------------------------------------------------------
-
--- Where a receipt is marked, there are as many as before.
-pub marked-long : (state : TxState) (i : ℕ) (ps : List ReceiptPlace) → length ps ≡ 128 → length (mark state i ps) ≡ 128
-marked-long state i ps h = length-set ps i (markedPlace state (placeOf ps i)) ∙ h
 
 -- What a call leaves behind a question.
 pub ask-sane : (n : ℕ) (b : Bool) (o : Outcome Kept) → (b ≡ true → SaneAfter o) → SaneAfter (ask n b o)

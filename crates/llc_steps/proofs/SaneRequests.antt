@@ -33,7 +33,7 @@ use Rattle.llc_steps.specs.Places.{freePlace}
 use Rattle.llc_steps.specs.Calls.{entryOf, carrierFor, ackFor, seqOf, withSeq, dataPdu, withAcknowledged, withUnacknowledged, withStolen, receiptFree, rowFor, onData, onUnitdata}
 use Rattle.llc_steps.specs.Sane.{Sane, SaneAfter}
 use Rattle.llc_steps.proofs.Places.{free-place}
-use Rattle.llc_steps.proofs.SaneRelaid.{Used, one-more, others-used, sane-ready, messages-used, udata-used, acks-used, rows-used, relaid-sane, ask-sane}
+use Rattle.llc_steps.proofs.SaneRelaid.{places-full, pending-full, Used, one-more, others-used, sane-ready, messages-used, udata-used, acks-used, rows-used, relaid-sane, ask-sane}
 
 -- Rows: one is set, or put last where an SSI has none.
 with-seq-in-range :
@@ -143,7 +143,7 @@ module _ (r : Request) (s : State) (store : List ℕ) (ok : Sane s store) (ssi :
       (messages-used s store ok))
       (udata-used s store ok)
       acks-but
-      (length-set (s .receipts) (r .receipt) (pendingPlace true) ∙ ok .places)
+      (pending-full true (r .receipt) (s .receipts) (places-full s store ok))
       (rows-then (not ns) row)
       (store-long p inside ∙ ok .long)
 
@@ -163,7 +163,7 @@ module _ (r : Request) (s : State) (store : List ℕ) (ok : Sane s store) (ssi :
       (new-in-range (carrierFor r s) k (freePlace s) (length (header p ++ r .sdu)) false inside (pdu-short p))
       (udata-used s store ok))
       d
-      (length-set (s .receipts) (r .receipt) (pendingPlace false) ∙ ok .places)
+      (pending-full false (r .receipt) (s .receipts) (places-full s store ok))
       (rows-used s store ok)
       (store-long p inside ∙ ok .long)
 

@@ -17,7 +17,7 @@ use Rattle.llc_rule.specs.Ranges.{isType, isReceipt}
 use Rattle.llc_rule.specs.Sound.{All}
 use Rattle.llc_rule.proofs.Lists.{both, by-choice, either, all-append}
 use Rattle.llc_state.specs.Ranges.{isSsi, entryInRange}
-use Rattle.llc_state.specs.Receipts.{placeOf}
+use Rattle.llc_state.specs.Receipts.{receiptOf, placeOf}
 use Rattle.llc_state.specs.declared.Entry.{Entry}
 use Rattle.llc_state.specs.declared.ReceiptPlace.{ReceiptPlace}
 use Rattle.llc_state.specs.declared.State.{State}
@@ -25,7 +25,7 @@ use Rattle.llc_state.proofs.InRange.{range-tells}
 use Rattle.llc_steps.specs.States.{messagesOf, rowsOf}
 use Rattle.llc_steps.specs.Sane.{Sane}
 use Rattle.llc_steps.specs.TickEnd.{submitted, doneAt, timed, aged, retransmission, Sending, firstSending, retransmissions, firstSendings, ticked}
-use Rattle.llc_steps.proofs.SaneRelaid.{Used, none-used, marked-long, messages-used, rows-used, relaid-sane}
+use Rattle.llc_steps.proofs.SaneRelaid.{Full, places-full, Used, none-used, marked-full, messages-used, rows-used, relaid-sane}
 
 -- A visit after which at most k stay, each of which passes a test, and the state is as it has to be.
 record Visited {S A R : Type 0} (p : A → Bool) (Q : S → Type 0) (k : ℕ) (v : Visit S A R) : Type 0 where
@@ -56,10 +56,6 @@ visited-walk p Q f h s (x ∷ l) q a =
 
 one-stays : {A : Type 0} (p : A → Bool) (x : A) → p x ≡ true → Used p 1 (x ∷ [])
 one-stays p x e = record { few = omega arith; each = (e, tt) }
-
--- As many receipts as there are.
-abbrev Full : List ReceiptPlace → Type 0
-Full ps = length ps ≡ 128
 
 -- What question 1 says of an entry, apart from how often it was sent again and its done time.
 abbrev restInRange : Entry → Bool
@@ -101,7 +97,7 @@ timed-in-range :
     → entryInRange (timed time ps e) ≡ true
 timed-in-range time ps e v h =
     either (λ (x : Entry). entryInRange x ≡ true)
-    (not (e .«has_umac_done») && (placeOf ps (e .receipt) .taken && reported (placeOf ps (e .receipt) .receipt)))
+    (not (e .«has_umac_done») && (placeOf ps (e .receipt) .taken && reported (receiptOf (placeOf ps (e .receipt)))))
     (done-in-range time e v h)
     h
 
@@ -112,7 +108,7 @@ aged-visited :
     → entryInRange e ≡ true
     → Visited entryInRange Full 1 (aged time t251 ps e)
 aged-visited time t251 ps e n h =
-    let gone : Bool = placeOf ps (e .receipt) .taken && is Transmitted (placeOf ps (e .receipt) .receipt) in
+    let gone : Bool = placeOf ps (e .receipt) .taken && is Transmitted (receiptOf (placeOf ps (e .receipt))) in
     either (Visited entryInRange Full 1) (e .«has_umac_done» && overdue time t251 (e .«t_umac_done»))
     (by-choice (Visited entryInRange Full 1) (ltb (e .«retransmit_count») 3)
     (λ t.
@@ -121,9 +117,9 @@ aged-visited time t251 ps e n h =
           one-stays entryInRange (submitted (e .«retransmit_count» + 1) e)
           (submitted-in-range (e .«retransmit_count» + 1) e
           (le-leb (e .«retransmit_count» + 1) 3 (omega (arith, ltb-true (e .«retransmit_count») 3 t))) h);
-      state = marked-long Pending (e .receipt) ps n;
+      state = marked-full Pending (e .receipt) ps n;
     })
-    (λ f. record { stays = none-used entryInRange 1; state = either Full gone (marked-long Lost (e .receipt) ps n) n }))
+    (λ f. record { stays = none-used entryInRange 1; state = either Full gone (marked-full Lost (e .receipt) ps n) n }))
     (record { stays = one-stays entryInRange e h; state = n })
 
 retransmission-visited :
@@ -151,7 +147,7 @@ first-visited s e n h =
       stays =
           one-stays entryInRange (submitted (e .«retransmit_count») e)
           (submitted-in-range (e .«retransmit_count») e (entry-tells e h .count) h);
-      state = marked-long Pending (e .receipt) (s .receipts) n;
+      state = marked-full Pending (e .receipt) (s .receipts) n;
     }))
 
 -- Both passes, and the state after them.
@@ -163,7 +159,7 @@ module _ (s : State) (store : List ℕ) (ok : Sane s store) where
       (retransmission-visited (s .dltime) (s .t251) (range-tells s (ok .range) .head .time))
       (s .receipts)
       (messagesOf s)
-      (ok .places)
+      (places-full s store ok)
       (messages-used s store ok .each)
 
   first-sendings-visited : Visited entryInRange FullIn (length (retransmissions s .stays)) (firstSendings s)

@@ -21,7 +21,7 @@ use Rattle.llc_state.specs.declared.Entry.{Entry}
 use Rattle.llc_state.specs.declared.ReceiptPlace.{ReceiptPlace}
 use Rattle.llc_state.specs.declared.State.{State}
 use Rattle.llc_steps.specs.States.{messagesOf, udataOf, acksOf, rowsOf}
-use Rattle.llc_state.specs.Receipts.{placeOf, mark}
+use Rattle.llc_state.specs.Receipts.{receiptOf, placeOf, mark}
 use Rattle.llc_state.proofs.Places.{mark-in, taken-in}
 use Rattle.llc_state.proofs.Maps.{map-append, map-map}
 use Rattle.llc_steps.proofs.Relaid.{relaid-in}
@@ -64,7 +64,7 @@ module _ (store : List ℕ) where
   unfolding messageIn sentIn frameIn
   timed-in time ps e =
       let test : Bool =
-      not (e .«has_umac_done») && (placeOf ps (e .receipt) .taken && reported (placeOf ps (e .receipt) .receipt))
+      not (e .«has_umac_done») && (placeOf ps (e .receipt) .taken && reported (receiptOf (placeOf ps (e .receipt))))
       in
       ap₂ (λ (x y : Bool). cond (not x && y) (Rule.doneAt time (messageIn store e)) (messageIn store e))
       (has-time (e .«has_umac_done») (e .«t_umac_done»)) (sym (taken-in reported ps (e .receipt)))
@@ -86,7 +86,7 @@ module _ (store : List ℕ) where
   leave-in : (ps : List ReceiptPlace) (e : Entry) → Step.leave (map placeIn ps) (messageIn store e) ≡ viewed₁ (leave ps e)
   unfolding messageIn sentIn frameIn
   leave-in ps e =
-      let test : Bool = placeOf ps (e .receipt) .taken && is Transmitted (placeOf ps (e .receipt) .receipt) in
+      let test : Bool = placeOf ps (e .receipt) .taken && is Transmitted (receiptOf (placeOf ps (e .receipt))) in
       let places =
       ap₂ (λ (x : Bool) (qs : List Place). cond x qs (map placeIn ps)) (sym (taken-in (is Transmitted) ps (e .receipt))) (sym (mark-in Lost (e .receipt) ps))
       ∙ sym (ap-cond (map placeIn) test (mark Lost (e .receipt) ps) ps)

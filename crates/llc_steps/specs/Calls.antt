@@ -21,7 +21,7 @@ use Rattle.llc_rule.specs.Received.{Received, nsOf, nrOf, upward}
 use Rattle.llc_rule.specs.Messages.{carrierOf, slotBefore}
 use Rattle.llc_rule.specs.Step.{onAcknowledgedPath}
 use Rattle.llc_state.specs.States.{noReceipt}
-use Rattle.llc_state.specs.Receipts.{pendingPlace, placeOf, mark}
+use Rattle.llc_state.specs.Receipts.{receiptOf, pendingPlace, placeOf, mark}
 use Rattle.llc_state.specs.View.{placeBit}
 use Rattle.llc_state.specs.declared.Entry.{Entry}
 use Rattle.llc_state.specs.declared.ScheduledOutAck.{ScheduledOutAck}
@@ -157,7 +157,7 @@ fits nr e = e .«has_umac_done» && Bool·beq (e .ns) nr
 abbrev pub finishable : Bool → Found Entry → State → Bool
 finishable nr nothing s = true
 finishable nr (Lists.first e es) s =
-    not (fits nr e) || (placeOf (s .receipts) (e .receipt) .taken && is Transmitted (placeOf (s .receipts) (e .receipt) .receipt))
+    not (fits nr e) || (placeOf (s .receipts) (e .receipt) .taken && is Transmitted (receiptOf (placeOf (s .receipts) (e .receipt))))
 
 abbrev pub mayFinish : Frame → Option Bool → State → Bool
 mayFinish f none s = true
@@ -199,11 +199,11 @@ withReceipts s ps = relaid s (messagesOf s) (udataOf s) (acksOf s) ps (rowsOf s)
 
 unfoldable pub onReport : ℕ → ℕ → State → List ℕ → Outcome Kept
 onReport i how s b =
-    ask 15 (placeOf (s .receipts) i .taken && is Pending (placeOf (s .receipts) i .receipt) && not (waits i s))
+    ask 15 (placeOf (s .receipts) i .taken && is Pending (receiptOf (placeOf (s .receipts) i)) && not (waits i s))
     (accepted
     (kept (withReceipts s (cond (eqb how 1) (mark Transmitted i (s .receipts)) (mark Discarded i (s .receipts)))) b []))
 
 unfoldable pub onRelease : ℕ → State → List ℕ → Outcome Kept
 onRelease i s b =
-    ask 16 (placeOf (s .receipts) i .taken && final (placeOf (s .receipts) i .receipt) && not (held i s))
+    ask 16 (placeOf (s .receipts) i .taken && final (receiptOf (placeOf (s .receipts) i)) && not (held i s))
     (accepted (kept (withReceipts s (set (s .receipts) i noReceipt)) b []))

@@ -9,7 +9,7 @@ use Rattle.tx_receipt.specs.declared.TxState.the-variants.{Pending, Transmitted
 use Rattle.llc_rule.specs.Lists.{among, Visit, walk}
 use Rattle.llc_rule.specs.Records.{Record, acknowledged, unacknowledged}
 use Rattle.llc_rule.specs.Messages.{overdue, reported, replyTo}
-use Rattle.llc_state.specs.Receipts.{placeOf, mark}
+use Rattle.llc_state.specs.Receipts.{receiptOf, placeOf, mark}
 use Rattle.llc_state.specs.View.{sentIn, dueIn}
 use Rattle.llc_state.specs.declared.Entry.{Entry}
 use Rattle.llc_state.specs.declared.ScheduledOutAck.{ScheduledOutAck}
@@ -70,7 +70,7 @@ doneAt t e =
 abbrev pub timed : TdmaTime → List ReceiptPlace → Entry → Entry
 timed time ps e =
     cond
-    (not (e .«has_umac_done») && (placeOf ps (e .receipt) .taken && reported (placeOf ps (e .receipt) .receipt)))
+    (not (e .«has_umac_done») && (placeOf ps (e .receipt) .taken && reported (receiptOf (placeOf ps (e .receipt)))))
     (doneAt time e)
     e
 
@@ -85,7 +85,7 @@ abbrev pub leave : List ReceiptPlace → Entry → Visit (List ReceiptPlace) Ent
 leave ps e =
     record {
       state =
-          cond (placeOf ps (e .receipt) .taken && is Transmitted (placeOf ps (e .receipt) .receipt)) (mark Lost (e .receipt) ps) ps;
+          cond (placeOf ps (e .receipt) .taken && is Transmitted (receiptOf (placeOf ps (e .receipt)))) (mark Lost (e .receipt) ps) ps;
       stays = [];
       out = [];
     }

@@ -7,25 +7,25 @@ use mathlib.Core.Logic.{inl, inr}
 use lib.Dec.{eqb}
 use denote.Enum.Declared.{tagOf}
 use types.Run.{OneOf}
-use Rattle.tx_receipt.specs.Marks.{at}
 use Rattle.tx_receipt.specs.States.{number, is}
 use Rattle.tx_receipt.specs.declared.TxState.{TxState}
+use Rattle.tx_receipt.specs.declared.TxReceipt.{TxReceipt}
 use Rattle.tx_receipt.specs.declared.TxState.the-variants.{Pending, Discarded, Transmitted, Lost, Acknowledged}
 use Rattle.tx_receipt.proofs.TxState.{the-type}
 use Rattle.llc_rule.proofs.Lists.{by-test, if-true, if-false, and-true, and-false}
-use Rattle.llc_state.specs.Receipts.{markedPlace}
+use Rattle.llc_state.specs.Receipts.{receiptOf, markedPlace}
 use Rattle.llc_state.specs.declared.ReceiptPlace.{ReceiptPlace}
 use Rattle.llc_tick_end.specs.Retransmissions.{givenUp}
 
 -- A receipt that is Transmitted, and one that is not.
-pub transmitted-given-up : (p : ReceiptPlace) → p .receipt .state ≡ Transmitted → markedPlace Lost p ≡ givenUp p
+pub transmitted-given-up : (p : ReceiptPlace) → receiptOf p .state ≡ Transmitted → markedPlace Lost p ≡ givenUp p
 transmitted-given-up p e =
-    let test : is Transmitted (p .receipt) ≡ true = ap (λ (s : TxState). eqb (number s) 2) e in
+    let test : is Transmitted (receiptOf p) ≡ true = ap (λ (s : TxState). eqb (number s) 2) e in
     by-test (p .taken)
     (λ t. sym (if-true (markedPlace Lost p) p (and-true t test)))
     (λ f.
-    if-false (record { taken = true; receipt = at Lost (p .receipt) }) p f
-    ∙ sym (if-false (markedPlace Lost p) p (ap (λ (b : Bool). b && is Transmitted (p .receipt)) f)))
+    if-false (record { taken = true; «expects_ack» = p .«expects_ack»; state = number Lost }) p f
+    ∙ sym (if-false (markedPlace Lost p) p (ap (λ (b : Bool). b && is Transmitted (receiptOf p)) f)))
 
 -- 2 is the number of Transmitted.
 not-among : OneOf (0 ∷ 1 ∷ 3 ∷ 4 ∷ []) 2 → ⊥
@@ -41,5 +41,10 @@ another Transmitted h = absurd (not-among h)
 another Lost h = refl
 another Acknowledged h = refl
 
-pub other-given-up : (p : ReceiptPlace) → OneOf (0 ∷ 1 ∷ 3 ∷ 4 ∷ []) (tagOf the-type (p .receipt .state)) → p ≡ givenUp p
-other-given-up p h = sym (if-false (markedPlace Lost p) p (and-false (p .taken) (another (p .receipt .state) h)))
+pub other-given-up :
+    (p : ReceiptPlace) (r : TxReceipt)
+    → r ≡ receiptOf p
+    → OneOf (0 ∷ 1 ∷ 3 ∷ 4 ∷ []) (tagOf the-type (r .state))
+    → p ≡ givenUp p
+other-given-up p r e h =
+    sym (if-false (markedPlace Lost p) p (and-false (p .taken) (ap (is Transmitted) (sym e) ∙ another (r .state) h)))

@@ -19,7 +19,7 @@ use Rattle.llc_rule.proofs.Lists.{either, ap-cond, if-true, if-false}
 use Rattle.llc_records.specs.Wrote.{Wrote}
 use Rattle.llc_records.proofs.Wrote.{_⨾_, same-bytes, wrote-none, as-long}
 use Rattle.llc_state.specs.Ranges.{entryInRange, inRange}
-use Rattle.llc_state.specs.Receipts.{withPlaces, markedPlace, placeOf, mark}
+use Rattle.llc_state.specs.Receipts.{receiptOf, withPlaces, markedPlace, placeOf, mark}
 use Rattle.llc_state.specs.States.{noReceipt}
 use Rattle.llc_state.specs.View.{sentIn}
 use Rattle.llc_state.specs.declared.Entry.{Entry}
@@ -67,7 +67,7 @@ given-up-in :
     (ps : List ReceiptPlace) (e : Entry) → set ps (e .receipt) (givenUp (placeOf ps (e .receipt))) ≡ leave ps e .state
 given-up-in ps e =
     let p : ReceiptPlace = placeOf ps (e .receipt) in
-    let b : Bool = p .taken && is Transmitted (p .receipt) in
+    let b : Bool = p .taken && is Transmitted (receiptOf p) in
     ap-cond (set ps (e .receipt)) b (markedPlace Lost p) p
     ∙ ap (cond b (mark Lost (e .receipt) ps)) (set-getD ps (e .receipt) noReceipt)
 

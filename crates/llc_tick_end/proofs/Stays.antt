@@ -13,7 +13,7 @@ use Rattle.llc_rule.specs.Lists.{all, among, Visit, walk}
 use Rattle.llc_rule.specs.Messages.{overdue, reported}
 use Rattle.llc_rule.proofs.Lists.{both, and-true, by-choice, either}
 use Rattle.llc_state.specs.Ranges.{entryInRange, inRange}
-use Rattle.llc_state.specs.Receipts.{placeOf}
+use Rattle.llc_state.specs.Receipts.{receiptOf, placeOf}
 use Rattle.llc_state.specs.declared.Entry.{Entry}
 use Rattle.llc_state.specs.declared.ReceiptPlace.{ReceiptPlace}
 use Rattle.llc_state.specs.declared.State.{State}
@@ -93,7 +93,7 @@ module _ (time : TdmaTime) (t251 : ℕ) where
   timed-in-range : (ps : List ReceiptPlace) (e : Entry) → valid time ≡ true → entryInRange e ≡ true → entryInRange (timed time ps e) ≡ true
   timed-in-range ps e v h =
       either (λ (x : Entry). entryInRange x ≡ true)
-      (not (e .«has_umac_done») && (placeOf ps (e .receipt) .taken && reported (placeOf ps (e .receipt) .receipt)))
+      (not (e .«has_umac_done») && (placeOf ps (e .receipt) .taken && reported (receiptOf (placeOf ps (e .receipt)))))
       (done-in-range time e v h)
       h
 

@@ -5,14 +5,14 @@ use Rattle.tdma_time.specs.declared.TdmaTime.{TdmaTime}
 use Rattle.tx_receipt.specs.States.{is}
 use Rattle.tx_receipt.specs.declared.TxState.the-variants.{Transmitted, Lost}
 use Rattle.llc_rule.specs.Messages.{overdue, reported}
-use Rattle.llc_state.specs.Receipts.{markedPlace}
+use Rattle.llc_state.specs.Receipts.{receiptOf, markedPlace}
 use Rattle.llc_state.specs.declared.Entry.{Entry}
 use Rattle.llc_state.specs.declared.ReceiptPlace.{ReceiptPlace}
 use Rattle.llc_steps.specs.TickEnd.{doneAt}
 
 -- Is it reported and has no done time yet? The message with its done time.
 abbrev pub newlyDone : ReceiptPlace → Entry → Bool
-newlyDone p e = not (e .«has_umac_done») && (p .taken && reported (p .receipt))
+newlyDone p e = not (e .«has_umac_done») && (p .taken && reported (receiptOf p))
 
 abbrev pub timedBy : TdmaTime → ReceiptPlace → Entry → Entry
 timedBy time p e = cond (newlyDone p e) (doneAt time e) e
@@ -23,4 +23,4 @@ isDue time t251 e = e .«has_umac_done» && overdue time t251 (e .«t_umac_done�
 
 -- The place of its receipt when it leaves.
 abbrev pub givenUp : ReceiptPlace → ReceiptPlace
-givenUp p = cond (p .taken && is Transmitted (p .receipt)) (markedPlace Lost p) p
+givenUp p = cond (p .taken && is Transmitted (receiptOf p)) (markedPlace Lost p) p

@@ -8,6 +8,7 @@ ghost use Rattle.tdma_time.specs.Slots.{valid};
 ghost use Rattle.llc_rule.specs.Messages.{overdue as isOverdue, reported};
 ghost use Rattle.llc_records.specs.Wrote.{Wrote};
 ghost use Rattle.llc_state.specs.Ranges.{inRange};
+ghost use Rattle.llc_state.specs.Receipts.{receiptOf};
 ghost use Rattle.llc_steps.specs.TickEnd.{retransmissions, submitted as submittedEntry};
 ghost use Rattle.llc_tick_end.specs.Passes.{sentBytesOf, afterRetransmissions};
 ghost use Rattle.llc_tick_end.specs.Retransmissions.{timedBy, isDue, givenUp};
@@ -37,9 +38,9 @@ fn overdue(dltime: TdmaTime, t251: u16, done: TdmaTime) -> bool
 
 // Is the receipt of a place taken, and was the message transmitted or discarded?
 fn is_reported(place: ReceiptPlace) -> bool
-    ensures { λ r. ⌜ r ≡ place .taken && reported (place .receipt) ⌝ }
+    ensures { λ r. ⌜ r ≡ place .taken && reported (receiptOf place) ⌝ }
 {
-    let receipt = place.receipt;
+    let receipt = place.receipt();
     place.taken & (receipt.is_discarded() | receipt.is_transmitted())
 }
 
@@ -84,7 +85,7 @@ pub(crate) fn submitted(e: Entry, retransmit_count: u8) -> Entry
 fn given_up(place: ReceiptPlace) -> ReceiptPlace
     ensures { λ r. ⌜ r ≡ givenUp place ⌝ }
 {
-    let receipt = place.receipt;
+    let receipt = place.receipt();
     let state = receipt.state;
     if let TxState::Transmitted = state {
         return place.marked(TxState::Lost);

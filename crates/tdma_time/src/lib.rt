@@ -9,6 +9,7 @@ ghost use Rattle.tdma_time.specs.Slots.{W, valid, slots as slotsOf, time
 ghost use Rattle.tdma_time.specs.Answers.{moved, counted, countedFrom, added, difference, forwarded};
 
 /// A slot, by its place in the frame, the multiframe and the hyperframe.
+#[repr(C)]
 pub struct TdmaTime {
     /// Timeslot, from 1 to 4
     pub t: u8,

@@ -1,12 +1,20 @@
 -- The laws of marks, for callers and for the functions that mark.
 use mathlib.Core.Path.{_≡_, refl}
 use mathlib.Core.Bool.{Bool, true, false, not, _||_}
-use Rattle.tx_receipt.specs.States.{final}
+use Rattle.tx_receipt.specs.States.{number, numbered, final}
 use Rattle.tx_receipt.specs.Marks.{Mark, transmitted, discarded, acknowledged, lost, target, allowed, at, question, answer, marked}
 use Rattle.tx_receipt.specs.declared.TxState.{TxState}
 use Rattle.tx_receipt.specs.declared.TxState.the-variants.{Pending, Discarded, Transmitted, Lost, Acknowledged}
 use Rattle.tx_receipt.specs.declared.TxReceipt.{TxReceipt}
 use Rattle.tx_receipt.specs.declared.Marked.the-variants.{Made}
+
+-- A state is the one with its number.
+pub numbered-number : (s : TxState) → numbered (number s) ≡ s
+numbered-number Pending = refl
+numbered-number Discarded = refl
+numbered-number Transmitted = refl
+numbered-number Lost = refl
+numbered-number Acknowledged = refl
 
 -- A mark that the table allows is made, and leads to its state.
 pub made : (m : Mark) (r : TxReceipt) → allowed m r ≡ true → marked m r ≡ answer (Made (at (target m) r))

@@ -1,1 +1,3 @@
+mod ByValue
+mod InPlace
 pub mod Laws

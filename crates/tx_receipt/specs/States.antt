@@ -1,6 +1,6 @@
 -- Receipts, as document 01's paragraph of that name and its question 16 give them.
 use Prim.Native.Nat.{ℕ}
-use mathlib.Core.Bool.{Bool, true, false, not}
+use mathlib.Core.Bool.{Bool, true, false, not, cond}
 use lib.Dec.{leb, eqb}
 use Rattle.tx_receipt.specs.declared.TxState.{TxState}
 use Rattle.tx_receipt.specs.declared.TxState.the-variants.{Pending, Discarded, Transmitted, Lost, Acknowledged}
@@ -13,6 +13,19 @@ number Discarded = 1
 number Transmitted = 2
 number Lost = 3
 number Acknowledged = 4
+
+-- The state with a number; Acknowledged for each number from 4 on.
+abbrev pub numbered : ℕ → TxState
+numbered n =
+    cond (eqb n 0)
+    Pending
+    (cond (eqb n 1)
+    Discarded
+    (cond (eqb n 2)
+    Transmitted
+    (cond (eqb n 3)
+    Lost
+    Acknowledged)))
 
 -- Is a receipt in a state?
 abbrev pub is : TxState → TxReceipt → Bool

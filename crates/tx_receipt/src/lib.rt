@@ -2,8 +2,11 @@
 // refused, and the receipt comes back as it was.
 ghost use mathlib.Core.Path.{_≡_};
 ghost use mathlib.Core.Bool.{Bool, true, false};
-ghost use Rattle.tx_receipt.specs.States.{number, is, atLeast, final};
+ghost use Rattle.tx_receipt.specs.States.{number, numbered, is, atLeast, final};
 ghost use Rattle.tx_receipt.specs.Marks.{Mark, transmitted, discarded, acknowledged, lost, reset, allowed, at, answer, marked};
+
+/// The marks that take a receipt lent to them.
+pub mod lent;
 
 /// How far the message of a receipt has come.
 pub enum TxState {
@@ -36,6 +39,19 @@ pub enum Marked {
 }
 
 impl TxState {
+    /// The state with a number; Acknowledged for each number from 4 on.
+    pub fn from_raw(v: u8) -> TxState
+        ensures { λ r. ⌜ r ≡ numbered v ⌝ }
+    {
+        match v {
+            0 => TxState::Pending,
+            1 => TxState::Discarded,
+            2 => TxState::Transmitted,
+            3 => TxState::Lost,
+            _ => TxState::Acknowledged,
+        }
+    }
+
     /// The number of the state.
     pub fn raw(self) -> u8
         ensures { λ r. ⌜ r ≡ number self ⌝ }

@@ -1,6 +1,7 @@
 use mathlib.Core.Path.{_≡_, _∙_, sym, ap}
 use mathlib.Core.Bool.{Bool, _&&_}
 use borrow.Author.Tests.{not-true, not-false}
+use Rattle.tx_receipt.specs.States.{final}
 use Rattle.llc_state.specs.Receipts.{placeOf}
 use Rattle.llc_state.specs.declared.State.{State}
 use Rattle.llc_state.proofs.InRange.{range-tells}
@@ -22,13 +23,17 @@ finally :
     (c : tie.After-is-in-final-state) → let a = c .before .before .before .args in tested c ≡ isFinal (a .t1) (a .receipt)
 finally c =
     let a = c .before .before .before .args in
-    ap (λ (b : Bool). placeOf (a .t1 .receipts) (a .receipt) .taken && b) (c .is-in-final-state .ensures)
+    ap (λ (b : Bool). placeOf (a .t1 .receipts) (a .receipt) .taken && b)
+    (c .is-in-final-state .ensures ∙ ap final (c .before .receipt .ensures))
 
 mul-place : tie.Need-mul-place
 mul-place c = search needs
 
 element-copy-out-place : tie.Need-element-copy-out-place
 element-copy-out-place c = search needs
+
+receipt-requires : tie.Need-receipt-requires
+receipt-requires c κs = search needs
 
 is-in-final-state-requires : tie.Need-is-in-final-state-requires
 is-in-final-state-requires c κs = search needs
@@ -77,6 +82,7 @@ release-spec =
     (tie.spec
     mul-place
     element-copy-out-place
+    receipt-requires
     is-in-final-state-requires
     refused-requires
     returns

@@ -4,6 +4,7 @@ use mathlib.Core.Bool.{Bool, _&&_}
 use borrow.Author.Tests.{not-true, not-false}
 use lib.Dec.{eqb}
 use Rattle.tx_receipt.specs.States.{number}
+use Rattle.tx_receipt.specs.declared.TxReceipt.{TxReceipt}
 use Rattle.llc_state.specs.Receipts.{placeOf}
 use Rattle.llc_state.specs.declared.State.{State}
 use Rattle.llc_state.proofs.InRange.{range-tells}
@@ -25,13 +26,16 @@ pending : (c : tie.After-raw) → let a = c .before .before .before .before .arg
 pending c =
     let a = c .before .before .before .before .args in
     ap (λ (n : ℕ). placeOf (a .t1 .receipts) (a .receipt) .taken && eqb n 0)
-    (c .raw .ensures ∙ ap number (c .before .get-state .ensures))
+    (c .raw .ensures ∙ ap number (c .before .get-state .ensures ∙ ap (λ (r : TxReceipt). r .state) (c .before .before .receipt .ensures)))
 
 mul-place : tie.Need-mul-place
 mul-place c = search needs
 
 element-copy-out-place : tie.Need-element-copy-out-place
 element-copy-out-place c = search needs
+
+receipt-requires : tie.Need-receipt-requires
+receipt-requires c κs = search needs
 
 get-state-requires : tie.Need-get-state-requires
 get-state-requires c κs = search needs
@@ -99,6 +103,7 @@ rx-tma-report-ind-spec =
     (tie.spec
     mul-place
     element-copy-out-place
+    receipt-requires
     get-state-requires
     raw-requires
     refused-requires

@@ -1,0 +1,48 @@
+//! Receipts.
+
+/// How far the message of a receipt has come.
+#[derive(Clone, Copy, Debug, PartialEq, Eq)]
+pub enum TxState {
+    /// The message is queued and not yet sent over the air.
+    Pending,
+    /// The lower layer had to discard the message. The link may still send it again: only an accepted release tells the end.
+    Discarded,
+    /// The lower layer has sent the message over the air.
+    Transmitted,
+    /// The message was transmitted and no acknowledgement came.
+    Lost,
+    /// The remote side has acknowledged receipt.
+    Acknowledged,
+}
+
+impl TxState {
+    /// The state with this number; the engine has none over 4.
+    pub(crate) fn from_raw(number: u8) -> TxState {
+        match number {
+            0 => TxState::Pending,
+            1 => TxState::Discarded,
+            2 => TxState::Transmitted,
+            3 => TxState::Lost,
+            _ => TxState::Acknowledged,
+        }
+    }
+}
+
+/// A receipt that a request holds.
+#[derive(Clone, Copy, Debug, PartialEq, Eq)]
+pub struct Receipt {
+    /// Its mark.
+    pub state: TxState,
+    /// Is an acknowledgement expected?
+    pub expects_ack: bool,
+}
+
+/// What the lower layer did with a message, for [`Link::report`](crate::Link::report).
+#[derive(Clone, Copy, Debug, PartialEq, Eq)]
+#[repr(u8)]
+pub enum Report {
+    /// It was sent over the air.
+    Transmitted = 1,
+    /// It was discarded.
+    Discarded = 2,
+}
