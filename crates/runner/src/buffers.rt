@@ -1,4 +1,4 @@
-// The buffers of a session, of document 01's lengths. Of each its length is what matters.
+// The buffers of a run, of document 01's lengths. Of each its length is what matters.
 ghost use mathlib.Core.Path.{_≡_};
 ghost use lib.ListN.{length};
 

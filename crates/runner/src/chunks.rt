@@ -8,7 +8,7 @@ use hex_lines::Line;
 use llc_state::State;
 
 // What is under way between two chunks.
-pub(crate) struct Session {
+pub(crate) struct Progress {
     pub state: State,
     pub line: Line,
     // Is there more to read, and could all text be written?
@@ -17,18 +17,18 @@ pub(crate) struct Session {
 
 // Answers the lines that end in a chunk, and writes the answers.
 pub(crate) fn answer_lines(
-    session: Session,
+    progress: Progress,
     chunk: &[u8],
     bytes: &mut [u8],
     store: &mut [u8],
     out: &mut [u8],
     text: &mut [u8],
-) -> Session
+) -> Progress
     requires { ⌜ 2048 ≤ length (now bytes) ⌝ }
     requires { ⌜ 4 + 3 * length (now out) ≤ length (now text) ⌝ }
 {
-    let mut state = session.state;
-    let mut line = session.line;
+    let mut state = progress.state;
+    let mut line = progress.line;
     let mut at = 0;
     let mut i = 0;
     while i < chunk.len() {
@@ -43,7 +43,7 @@ pub(crate) fn answer_lines(
             line = Line::new();
             at = a.at;
             if !a.open {
-                return Session {
+                return Progress {
                     state,
                     line,
                     open: false,
@@ -52,5 +52,5 @@ pub(crate) fn answer_lines(
         }
     }
     let open = write_out(text, at);
-    Session { state, line, open }
+    Progress { state, line, open }
 }

@@ -3,9 +3,9 @@
 mod answers;
 mod buffers;
 mod chunks;
+mod input;
 mod lines;
 mod output;
-mod session;
 
 fn main() {
     let mut chunk = io::large_buffer();
@@ -13,5 +13,5 @@ fn main() {
     let mut store = buffers::store();
     let mut out = buffers::out();
     let mut text = buffers::text();
-    session::run(&mut chunk, &mut bytes, &mut store, &mut out, &mut text);
+    input::run(&mut chunk, &mut bytes, &mut store, &mut out, &mut text);
 }

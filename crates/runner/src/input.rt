@@ -1,9 +1,9 @@
-// A session: standard input to its end, chunk by chunk.
+// Standard input to its end, chunk by chunk.
 ghost use Prim.Native.Nat.{_+_, _*_, _≤_, _<_};
 ghost use lib.ListN.{length};
 ghost use Rattle.io.specs.Counts.{Counts};
 use crate::answers::answer;
-use crate::chunks::Session;
+use crate::chunks::Progress;
 use crate::chunks::answer_lines;
 use crate::output::write_out;
 use hex_lines::Line;
@@ -20,19 +20,19 @@ fn read(chunk: &mut [u8]) -> usize
 
 // At the end of the input: a last line without a line end counts.
 fn answer_last(
-    session: Session,
+    progress: Progress,
     bytes: &[u8],
     store: &mut [u8],
     out: &mut [u8],
     text: &mut [u8],
-) -> Session
+) -> Progress
     requires { ⌜ 2048 ≤ length (now bytes) ⌝ }
     requires { ⌜ 4 + 3 * length (now out) ≤ length (now text) ⌝ }
 {
-    let state = session.state;
-    let line = session.line;
+    let state = progress.state;
+    let line = progress.line;
     if !line.begun() {
-        return Session {
+        return Progress {
             state,
             line,
             open: false,
@@ -41,7 +41,7 @@ fn answer_last(
     let a = answer(state, line, bytes, store, out, text, 0);
     write_out(text, a.at);
     let state = a.state;
-    Session {
+    Progress {
         state,
         line: Line::new(),
         open: false,
@@ -50,24 +50,24 @@ fn answer_last(
 
 // Reads once, and answers the lines that end in what came.
 fn turn(
-    session: Session,
+    progress: Progress,
     chunk: &mut [u8],
     bytes: &mut [u8],
     store: &mut [u8],
     out: &mut [u8],
     text: &mut [u8],
-) -> Session
+) -> Progress
     requires { ⌜ 2048 ≤ length (now bytes) ⌝ }
     requires { ⌜ 4 + 3 * length (now out) ≤ length (now text) ⌝ }
 {
     let n = read(chunk);
     if n == 0 {
-        return answer_last(session, bytes, store, out, text);
+        return answer_last(progress, bytes, store, out, text);
     }
-    answer_lines(session, &chunk[..n], bytes, store, out, text)
+    answer_lines(progress, &chunk[..n], bytes, store, out, text)
 }
 
-// How many turns are left behind one: none where the session has ended.
+// How many turns are left behind one: none where the run has ended.
 fn turns_left(turns: u64, open: bool) -> u64
     requires { ⌜ 0 < turns ⌝ }
     ensures { λ r. ⌜ r < turns ⌝ }
@@ -90,14 +90,14 @@ pub(crate) fn run(
     requires { ⌜ 2048 ≤ length (now bytes) ⌝ }
     requires { ⌜ 4 + 3 * length (now out) ≤ length (now text) ⌝ }
 {
-    let mut session = Session {
+    let mut progress = Progress {
         state: NEW,
         line: Line::new(),
         open: true,
     };
     let mut turns = u64::MAX;
     while 0 < turns {
-        session = turn(session, chunk, bytes, store, out, text);
-        turns = turns_left(turns, session.open);
+        progress = turn(progress, chunk, bytes, store, out, text);
+        turns = turns_left(turns, progress.open);
     }
 }

@@ -1,11 +1,11 @@
 use mathlib.Core.Path.{_≡_}
 use borrow.Author.Needs.{needs}
 use lib.ListN.{length}
-use Rattle.runner.proofs.session.run.Statement.{statement}
-use Rattle.runner.proofs.session.run.Tie as tie
+use Rattle.runner.proofs.input.run.Statement.{statement}
+use Rattle.runner.proofs.input.run.Tie as tie
 
 abbrev Inv-loop : tie.InvT-loop
-Inv-loop chunk₀ bytes₀ store₀ out₀ text₀ session₀ turns₀ chunk bytes store out text session turns =
+Inv-loop chunk₀ bytes₀ store₀ out₀ text₀ progress₀ turns₀ chunk bytes store out text progress turns =
     (length chunk ≡ length chunk₀)
     × (length bytes ≡ length bytes₀)
     × (length store ≡ length store₀)
@@ -13,7 +13,7 @@ Inv-loop chunk₀ bytes₀ store₀ out₀ text₀ session₀ turns₀ chunk byt
     × (length text ≡ length text₀)
 
 abbrev μ-loop : tie.MeasureT-loop
-μ-loop chunk₀ bytes₀ store₀ out₀ text₀ session₀ turns₀ chunk bytes store out text session turns = turns
+μ-loop chunk₀ bytes₀ store₀ out₀ text₀ progress₀ turns₀ chunk bytes store out text progress turns = turns
 
 new-requires : tie.Need-new-requires Inv-loop μ-loop
 new-requires c κs = search needs
