@@ -9,12 +9,15 @@ use lib.ListN.{length, getD, take, drop}
 use Rattle.llc_rule.specs.Lists.{all}
 
 module _ {A : Type 0} where
-  -- Before turn i, the test of those from i on and what is asked behind this loop make up the whole answer.
-  pub record Asking (whole : Bool) (p : A → Bool) (k n : ℕ) (l : List A) (i : ℕ) (more : Bool) : Type 0 where
+  -- Before turn i, the test of those from i on is the whole answer.
+  pub record Asking (p : A → Bool) (k n : ℕ) (l : List A) (i : ℕ) : Type 0 where
     pub low : i ≤ n
     pub high : n ≤ k
     pub long : length l ≡ k
-    pub left : all p (drop i (take n l)) && more ≡ whole
+    pub left : all p (drop i (take n l)) ≡ all p (take n l)
+
+  pub begins : (p : A → Bool) (k n : ℕ) (l : List A) → n ≤ k → length l ≡ k → Asking p k n l 0
+  begins p k n l high long = record { low = omega arith; high = high; long = long; left = refl }
 
   -- The next one, and then the others.
   next :
@@ -34,16 +37,16 @@ module _ {A : Type 0} where
   none-left p (suc n) [] = refl
   none-left p (suc n) (x ∷ l) = none-left p n l
 
-  module _ {whole : Bool} {p : A → Bool} {k n : ℕ} {l : List A} {i : ℕ} {more : Bool} (a : Asking whole p k n l i more) where
+  module _ {p : A → Bool} {k n : ℕ} {l : List A} {i : ℕ} (a : Asking p k n l i) where
     -- The whole answer by the answer r for the next one.
-    by-next : (d : A) (r : Bool) → i < n → r ≡ p (getD l i d) → r && all p (drop (suc i) (take n l)) && more ≡ whole
+    by-next : (d : A) (r : Bool) → i < n → r ≡ p (getD l i d) → r && all p (drop (suc i) (take n l)) ≡ all p (take n l)
     by-next d r h e =
-        ap (λ (b : Bool). b && all p (drop (suc i) (take n l)) && more) e
-        ∙ ap (λ (b : Bool). b && more) (next p n l i d h (omega (arith, a .high, a .long)))
+        ap (λ (b : Bool). b && all p (drop (suc i) (take n l))) e
+        ∙ next p n l i d h (omega (arith, a .high, a .long))
         ∙ a .left
 
     -- A turn in which it passes, and one in which it fails.
-    pub goes-on : (d : A) (r : Bool) → i < n → r ≡ p (getD l i d) → not r ≡ false → Asking whole p k n l (i + 1) more
+    pub goes-on : (d : A) (r : Bool) → i < n → r ≡ p (getD l i d) → not r ≡ false → Asking p k n l (i + 1)
     goes-on d r h e f =
         let one : i + 1 ≡ suc i = omega arith in
         record {
@@ -53,13 +56,11 @@ module _ {A : Type 0} where
           left = rw one (by-next d true h (sym (not-false r f) ∙ e));
         }
 
-    pub fails : (d : A) (r : Bool) → i < n → r ≡ p (getD l i d) → not r ≡ true → false ≡ whole
+    pub fails : (d : A) (r : Bool) → i < n → r ≡ p (getD l i d) → not r ≡ true → false ≡ all p (take n l)
     fails d r h e f = by-next d false h (sym (not-true r f) ∙ e)
 
     -- No turn is left.
-    pub ends : n ≤ i → more ≡ whole
+    pub ends : n ≤ i → true ≡ all p (take n l)
     ends h =
         let e : n ≡ i = omega (arith, a .low, h) in
-        ap (λ (b : Bool). b && more) (none-left p n l)
-        ∙ ap (λ (j : ℕ). all p (drop j (take n l)) && more) e
-        ∙ a .left
+        none-left p n l ∙ ap (λ (j : ℕ). all p (drop j (take n l))) e ∙ a .left

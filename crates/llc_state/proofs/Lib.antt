@@ -3,5 +3,4 @@ pub mod InRange
 pub mod Lengths
 pub mod Maps
 pub mod Places
-pub mod RangeLoops
 pub mod View

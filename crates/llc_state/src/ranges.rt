@@ -1,5 +1,8 @@
 // Question 1 of a state's counts and values in use.
+ghost use Prim.Native.Nat.{_≤_};
 ghost use mathlib.Core.Path.{_≡_};
+ghost use lib.ListN.{take};
+ghost use Rattle.llc_rule.specs.Lists.{all};
 ghost use Rattle.llc_state.specs.Ranges.{entryInRange, ackInRange, placeInRange, rowInRange, headInRange, inRange};
 use crate::Entry;
 use crate::LinkSendSeq;
@@ -44,6 +47,81 @@ fn row_in_range(row: LinkSendSeq) -> bool
     row.ssi < 16_777_216
 }
 
+// The first n messages.
+fn messages_in_range(entries: [Entry; 64], n: usize) -> bool
+    requires { ⌜ n ≤ 64 ⌝ }
+    ensures { λ r. ⌜ r ≡ all entryInRange (take n entries) ⌝ }
+{
+    let mut i = 0;
+    while i < n {
+        if !entry_in_range(entries[i]) {
+            return false;
+        }
+        i += 1;
+    }
+    true
+}
+
+// The first n unacknowledged messages.
+fn udata_in_range(entries: [Entry; 32], n: usize) -> bool
+    requires { ⌜ n ≤ 32 ⌝ }
+    ensures { λ r. ⌜ r ≡ all entryInRange (take n entries) ⌝ }
+{
+    let mut i = 0;
+    while i < n {
+        if !entry_in_range(entries[i]) {
+            return false;
+        }
+        i += 1;
+    }
+    true
+}
+
+// The first n due acknowledgements.
+fn acks_in_range(acks: [ScheduledOutAck; 64], n: usize) -> bool
+    requires { ⌜ n ≤ 64 ⌝ }
+    ensures { λ r. ⌜ r ≡ all ackInRange (take n acks) ⌝ }
+{
+    let mut i = 0;
+    while i < n {
+        if !ack_in_range(acks[i]) {
+            return false;
+        }
+        i += 1;
+    }
+    true
+}
+
+// The first n rows.
+fn rows_in_range(rows: [LinkSendSeq; 256], n: usize) -> bool
+    requires { ⌜ n ≤ 256 ⌝ }
+    ensures { λ r. ⌜ r ≡ all rowInRange (take n rows) ⌝ }
+{
+    let mut i = 0;
+    while i < n {
+        if !row_in_range(rows[i]) {
+            return false;
+        }
+        i += 1;
+    }
+    true
+}
+
+// The first n receipts' places.
+fn places_in_range(places: [ReceiptPlace; 128], n: usize) -> bool
+    requires { ⌜ n ≤ 128 ⌝ }
+    ensures { λ r. ⌜ r ≡ all placeInRange (take n places) ⌝ }
+{
+    let mut i = 0;
+    while i < n {
+        if !place_in_range(places[i]) {
+            return false;
+        }
+        i += 1;
+    }
+    true
+}
+
 impl State {
     // The counts, the time and T251.
     fn head_in_range(self) -> bool
@@ -64,41 +142,15 @@ impl State {
         if !self.head_in_range() {
             return false;
         }
-        let mut i = 0;
-        while i < self.n_messages {
-            if !entry_in_range(self.outbound_messages[i]) {
-                return false;
-            }
-            i += 1;
-        }
-        let mut j = 0;
-        while j < self.n_udata {
-            if !entry_in_range(self.outbound_udata_messages[j]) {
-                return false;
-            }
-            j += 1;
-        }
-        let mut k = 0;
-        while k < self.n_acks {
-            if !ack_in_range(self.scheduled_out_acks[k]) {
-                return false;
-            }
-            k += 1;
-        }
-        let mut m = 0;
-        while m < self.n_rows {
-            if !row_in_range(self.link_send_seq[m]) {
-                return false;
-            }
-            m += 1;
-        }
-        let mut p = 0;
-        while p < 128 {
-            if !place_in_range(self.receipts[p]) {
-                return false;
-            }
-            p += 1;
-        }
-        true
+        let messages = self.outbound_messages;
+        let udata = self.outbound_udata_messages;
+        let acks = self.scheduled_out_acks;
+        let rows = self.link_send_seq;
+        let places = self.receipts;
+        messages_in_range(messages, self.n_messages)
+            & udata_in_range(udata, self.n_udata)
+            & acks_in_range(acks, self.n_acks)
+            & rows_in_range(rows, self.n_rows)
+            & places_in_range(places, 128)
     }
 }
