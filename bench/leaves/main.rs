@@ -2,11 +2,8 @@
 use std::hint::black_box;
 use std::time::Instant;
 use tetra_core::BitBuffer;
-
-#[path = "SOURCE/tetra-pdus/src/llc/pdus/bl_data.rs"]
-mod bl_data;
-#[path = "SOURCE/tetra-entities/src/llc/components/fcs.rs"]
-mod fcs;
+use tetra_entities::llc::components::fcs;
+use tetra_pdus::llc::pdus::bl_data;
 
 unsafe extern "C" {
     fn leaf_fcs(part: *const u8, part_len: usize, at: usize, len: usize) -> u64;

@@ -1,26 +1,17 @@
 //! Lines in order, and the answers that are expected to them, from a new state on.
 use crate::generator::Generator;
-use crate::hex_line::line_of;
-use crate::oracle::{Answer, Oracle};
+use crate::held::Held;
+use crate::oracle::Oracle;
+use crate::outcome::{Outcome, text};
 use crate::prng::Prng;
 
-/// Lines, with the expected text of each.
+/// Lines, with what is expected of each.
 pub struct Batch {
     pub oracle: Oracle,
     pub lines: Vec<Vec<u8>>,
-    pub expected: Vec<String>,
+    pub expected: Vec<Outcome>,
     /// Places where the Rust does not do what document 01 says of it.
     pub faults: Vec<(usize, String)>,
-}
-
-/// The text that the runner prints for an answer.
-fn text(answer: &Answer) -> String {
-    let mut text = format!("{}\n", answer.number);
-    for record in &answer.records {
-        text.push_str(std::str::from_utf8(&line_of(record)).unwrap());
-        text.push('\n');
-    }
-    text
 }
 
 impl Batch {
@@ -41,7 +32,8 @@ impl Batch {
     /// One line more.
     pub fn push(&mut self, line: Vec<u8>) {
         let answer = self.oracle.line(&line);
-        self.expected.push(text(&answer));
+        let text = text(answer.number, answer.records.iter().map(|record| record.as_slice()));
+        self.expected.push(Outcome { text, held: Some(Held::by_oracle(&self.oracle)) });
         if let Some(fault) = answer.fault {
             self.faults.push((self.lines.len(), fault));
         }

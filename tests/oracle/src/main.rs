@@ -1,66 +1,45 @@
-//! Compares the proved runner with the Rust's link on the same calls.
-mod batch;
-mod bits;
-mod call;
-mod caught;
-mod check_sequence;
-mod compare;
-mod coverage;
-mod generator;
-mod header;
-mod hex_line;
-mod largest;
-mod message;
-mod oracle;
-mod prng;
-mod questions;
-mod record;
-mod session;
-mod short_runs;
-mod shrink;
-mod sight;
-mod spoilt;
-mod store;
-mod traffic;
-
-use session::Session;
+//! Compares the proved engine with the Rust's link on the same calls.
+use oracle::comparison::Comparison;
+use oracle::subject::Subject;
+use oracle::{caught, store};
 use std::path::Path;
 
 /// How it is called.
-const USAGE: &str =
-    "oracle RUNNER all SECONDS SEED LENGTH | seed SEED | short LENGTH | file FILE, or oracle answers FILE | store";
+const USAGE: &str = "oracle answers FILE | store | all SECONDS SEED LENGTH SUBJECT... | seed SEED SUBJECT... | \
+                     short LENGTH SUBJECT... | file FILE SUBJECT...; a SUBJECT is `link`, or the path of a runner";
 
 fn main() {
     caught::silence();
     let args: Vec<String> = std::env::args().skip(1).collect();
     let args: Vec<&str> = args.iter().map(|arg| arg.as_str()).collect();
     let number = |text: &str| text.parse::<u64>().expect(USAGE);
+    let compare = |words: &[&str]| Comparison::new(words.iter().map(|word| Subject::named(word)).collect());
     match args[..] {
-        [runner, "all", seconds, seed, length] => {
-            let mut session = Session::new(Path::new(runner));
-            session.largest();
-            session.short(number(length) as usize);
-            session.fixed_seeds();
-            session.fresh_seeds(number(seed), number(seconds));
-            session.finish(true);
-        }
-        [runner, "seed", seed] => {
-            let mut session = Session::new(Path::new(runner));
-            session.seed(number(seed));
-            session.finish(false);
-        }
-        [runner, "short", length] => {
-            let mut session = Session::new(Path::new(runner));
-            session.short(number(length) as usize);
-            session.finish(false);
-        }
-        [runner, "file", file] => {
-            let mut session = Session::new(Path::new(runner));
-            session.file(Path::new(file));
-            session.finish(false);
-        }
         ["answers", file] => store::print_answers(Path::new(file)),
         ["store"] => store::print_lines(),
+        ["all", seconds, seed, length, ref subjects @ ..] if !subjects.is_empty() => {
+            let mut comparison = compare(subjects);
+            comparison.largest();
+            comparison.short(number(length) as usize);
+            comparison.fixed_seeds();
+            comparison.fresh_seeds(number(seed), number(seconds));
+            comparison.finish(true);
+        }
+        ["seed", seed, ref subjects @ ..] if !subjects.is_empty() => {
+            let mut comparison = compare(subjects);
+            comparison.seed(number(seed));
+            comparison.finish(false);
+        }
+        ["short", length, ref subjects @ ..] if !subjects.is_empty() => {
+            let mut comparison = compare(subjects);
+            comparison.short(number(length) as usize);
+            comparison.finish(false);
+        }
+        ["file", file, ref subjects @ ..] if !subjects.is_empty() => {
+            let mut comparison = compare(subjects);
+            comparison.file(Path::new(file));
+            comparison.finish(false);
+        }
         _ => {
             eprintln!("{USAGE}");
             std::process::exit(2);

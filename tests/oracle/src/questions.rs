@@ -65,7 +65,7 @@ impl Oracle {
         0
     }
 
-    /// Questions 9 to 14. The Rust has to return silently for 9 to 12, and to panic for 14.
+    /// Questions 9 to 14. The Rust has to return silently for 9 to 12, and to panic half way for 14.
     fn frame_number(&mut self, frame: &Frame, fault: &mut Option<String>) -> u8 {
         let Some(started) = &mut self.link else {
             return 4;
@@ -96,9 +96,12 @@ impl Oracle {
         }
         if is_panic {
             let mut copy = started.llc.throw_away();
+            let (held, due) = (copy.messages().len(), copy.due().len());
             let fed = caught(|| copy.rx_prim(&mut MessageQueue::new(), message::frame(frame)));
-            if fed.is_some() {
-                *fault = Some("the Rust does not panic where the number is 14".into());
+            // By then the reply is due and the message is gone.
+            let is_half_done = copy.messages().len() + 1 == held && copy.due().len() == due + header.ns.is_some() as usize;
+            if fed.is_some() || !is_half_done {
+                *fault = Some("the Rust does not panic half way where the number is 14".into());
             }
             self.coverage.count("the Rust panicked for 14");
             return 14;
@@ -106,7 +109,7 @@ impl Oracle {
         0
     }
 
-    /// Question 15. The Rust has to panic on a receipt that is not Pending.
+    /// Question 15. The Rust has to panic on a receipt that is not Pending, and to take the mark of a message that waits.
     fn report_number(&mut self, receipt: u8, value: u8, fault: &mut Option<String>) -> u8 {
         let (Some(started), Some(reporter)) = (&self.link, &self.receipts[receipt as usize]) else {
             return 15;
@@ -120,6 +123,11 @@ impl Oracle {
         }
         let waits = |m: &ExpectedInAck| m.tx_reporter.is_same(reporter) && m.t_submitted_to_umac.is_none();
         if started.llc.messages().iter().any(waits) || started.llc.unacknowledged().iter().any(|m| is_on(m, reporter)) {
+            if caught(|| mark(reporter, value)).is_none() {
+                *fault = Some("the Rust does not take a mark on a message that waits".into());
+            }
+            // As if it had not been.
+            reporter.reset();
             self.coverage.count("report on a waiting message");
             return 15;
         }

@@ -17,7 +17,8 @@ pub fn lines_of(file: &Path) -> Vec<Vec<u8>> {
 /// Prints the oracle's answers to the lines of a file.
 pub fn print_answers(file: &Path) {
     let batch = Batch::of(&lines_of(file));
-    std::io::stdout().write_all(batch.expected.concat().as_bytes()).unwrap();
+    let answers: String = batch.expected.iter().map(|expected| expected.text.as_str()).collect();
+    std::io::stdout().write_all(answers.as_bytes()).unwrap();
 }
 
 /// The run of a seed, without lines that are no plain text: they change nothing.
@@ -34,7 +35,8 @@ fn run(seed: u64) -> Batch {
 
 /// The size of a run with its answers.
 fn size(batch: &Batch) -> usize {
-    batch.lines.iter().map(|line| line.len()).sum::<usize>() + batch.expected.iter().map(|text| text.len()).sum::<usize>()
+    batch.lines.iter().map(|line| line.len()).sum::<usize>()
+        + batch.expected.iter().map(|expected| expected.text.len()).sum::<usize>()
 }
 
 /// What of a list came in a run.
@@ -68,7 +70,7 @@ pub fn print_lines() {
         }
         let batch = beginning(best, &news);
         // Only a start gets 0 where nothing is started.
-        let start = batch.expected.iter().position(|text| text == "0\n").unwrap_or(batch.lines.len());
+        let start = batch.expected.iter().position(|expected| expected.text == "0\n").unwrap_or(batch.lines.len());
         before.extend_from_slice(&batch.lines[..start]);
         behind.extend_from_slice(&batch.lines[start..]);
         missing.retain(|what| !news.contains(what));

@@ -308,16 +308,7 @@ impl Station {
 
     /// A release: of a receipt that can be released, if there is one.
     pub fn release(&self, oracle: &Oracle, prng: &mut Prng) -> Call {
-        let held = |at: u8| {
-            let reporter = oracle.receipts[at as usize].as_ref();
-            oracle
-                .link
-                .iter()
-                .flat_map(|started| started.llc.messages())
-                .any(|m| reporter.is_some_and(|r| m.tx_reporter.is_same(r)))
-        };
-        let is_final = |at: u8| oracle.receipts[at as usize].as_ref().is_some_and(|reporter| reporter.is_in_final_state());
-        let open: Vec<u8> = (0..RECEIPTS as u8).filter(|&at| is_final(at) && !held(at)).collect();
+        let open: Vec<u8> = (0..RECEIPTS as u8).filter(|&at| is_releasable(oracle, at)).collect();
         Call::Release { receipt: if open.is_empty() { any_receipt(oracle, prng) } else { prng.one_of(&open) } }
     }
 
@@ -393,6 +384,15 @@ fn header(kind: u32, has_fcs: bool, nr: u8, ns: u8) -> Bits {
 fn under_way(oracle: &Oracle) -> Vec<&ExpectedInAck> {
     let all = oracle.link.iter().flat_map(|started| started.llc.messages());
     all.filter(|m| m.t_submitted_to_umac.is_some()).collect()
+}
+
+/// Is this receipt final, and its message no longer held?
+pub fn is_releasable(oracle: &Oracle, at: u8) -> bool {
+    let Some(reporter) = &oracle.receipts[at as usize] else {
+        return false;
+    };
+    let mut messages = oracle.link.iter().flat_map(|started| started.llc.messages());
+    reporter.is_in_final_state() && !messages.any(|m| m.tx_reporter.is_same(reporter))
 }
 
 /// Is this receipt Pending, and its message sent?

@@ -15,6 +15,16 @@ pub struct Picture {
 }
 
 impl Llc {
+    /// The main carrier.
+    pub fn carrier(&self) -> u16 {
+        self.main_carrier()
+    }
+
+    /// The time.
+    pub fn time(&self) -> TdmaTime {
+        self.dltime
+    }
+
     /// The acknowledged messages, in the order of the queue.
     pub fn messages(&self) -> &VecDeque<ExpectedInAck> {
         &self.outbound_messages

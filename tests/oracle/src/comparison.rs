@@ -4,52 +4,58 @@ use crate::compare::difference;
 use crate::coverage::Coverage;
 use crate::hex_line::line_of;
 use crate::largest;
+use crate::outcome::Outcome;
 use crate::short_runs::{Alphabet, alphabets};
 use crate::shrink::shrink;
 use crate::store;
+use crate::subject::Subject;
 use std::path::Path;
 use std::time::{Duration, Instant};
 
-/// Lines that go to one process of the runner, about.
+/// Lines from one new state on, about.
 const LINES: usize = 20_000;
 /// After so many differences nothing more is compared.
 const ENOUGH: usize = 3;
 
 /// What was compared so far.
-pub struct Session<'a> {
-    runner: &'a Path,
+pub struct Comparison {
+    subjects: Vec<Subject>,
     coverage: Coverage,
     calls: usize,
     failures: usize,
     begin: Instant,
 }
 
-impl<'a> Session<'a> {
+impl Comparison {
     /// Nothing yet.
-    pub fn new(runner: &'a Path) -> Session<'a> {
-        Session { runner, coverage: Coverage::default(), calls: 0, failures: 0, begin: Instant::now() }
+    pub fn new(subjects: Vec<Subject>) -> Comparison {
+        Comparison { subjects, coverage: Coverage::default(), calls: 0, failures: 0, begin: Instant::now() }
     }
 
-    /// Compares one batch; on a difference prints the smallest run that shows it. Is all the same?
+    /// Compares one batch, with each subject; on a difference prints the smallest run that shows it. Is all the same?
     fn compare(&mut self, label: &str, batch: &Batch) -> bool {
         if self.is_enough() {
             return false;
         }
         self.calls += batch.lines.len();
         self.coverage.add(&batch.oracle.coverage);
-        if difference(self.runner, batch).is_none() {
-            return true;
+        let differing = self.differing(batch);
+        for subject in &differing {
+            println!("FAILED: {label}: {} differs", subject.name());
+            show_smallest(subject, batch);
         }
-        self.failures += 1;
-        println!("FAILED: {label}");
-        let run = shrink(&batch.lines, |lines| difference(self.runner, &Batch::of(lines)).map(|found| found.at));
-        for line in &run {
-            println!("  {}", String::from_utf8_lossy(line));
-        }
-        if let Some(found) = difference(self.runner, &Batch::of(&run)) {
-            print!("  expected of the last call:\n{}  found:\n{}", found.expected, found.found);
-        }
-        false
+        let is_same = differing.is_empty();
+        self.failures += differing.len();
+        is_same
+    }
+
+    /// The subjects that differ on a batch; all are tried at the same time.
+    fn differing(&self, batch: &Batch) -> Vec<&Subject> {
+        std::thread::scope(|scope| {
+            let tried = self.subjects.iter().map(|subject| (subject, scope.spawn(|| difference(subject, batch).is_some())));
+            let tried: Vec<_> = tried.collect();
+            tried.into_iter().filter_map(|(subject, differs)| differs.join().unwrap().then_some(subject)).collect()
+        })
     }
 
     /// Was enough found?
@@ -61,7 +67,7 @@ impl<'a> Session<'a> {
     pub fn largest(&mut self) {
         let lines: Vec<_> = largest::run().iter().map(|call| line_of(&call.bytes())).collect();
         let batch = Batch::of(&lines);
-        let records = |text: &String| text.lines().skip(1).map(|line| line.len() / 2).sum::<usize>();
+        let records = |expected: &Outcome| expected.text.lines().skip(1).map(|line| line.len() / 2).sum::<usize>();
         let most = batch.expected.iter().map(records).max().unwrap_or(0);
         if self.compare("the largest tick ends", &batch) {
             println!("ok: tick ends of up to {most} bytes, {} calls", lines.len());
@@ -82,7 +88,7 @@ impl<'a> Session<'a> {
         }
     }
 
-    /// Seeds from `first` on, until the session has lasted so many seconds; at least one.
+    /// Seeds from `first` on, until the comparison has lasted so many seconds; at least one.
     pub fn fresh_seeds(&mut self, first: u64, seconds: u64) {
         println!("fresh seeds from {first} on");
         let (calls, mut seed, mut is_same) = (self.calls, first, !self.is_enough());
@@ -133,7 +139,7 @@ impl<'a> Session<'a> {
         self.compare(&label, &batch)
     }
 
-    /// All lists of two calls, each in a new process, so that nothing was started; a start follows.
+    /// All lists of two calls, each from a new state on, so that nothing was started; a start follows.
     fn unstarted(&mut self, alphabet: &Alphabet) -> bool {
         for number in 0..alphabet.count(2) {
             let mut batch = Batch::new();
@@ -159,7 +165,9 @@ impl<'a> Session<'a> {
     /// differences cut the comparison short.
     pub fn finish(&self, is_all_wanted: bool) {
         println!("coverage: {}", self.coverage.line());
-        println!("{} calls compared in {} seconds", self.calls, self.begin.elapsed().as_secs());
+        let names: Vec<&str> = self.subjects.iter().map(|subject| subject.name()).collect();
+        let seconds = self.begin.elapsed().as_secs();
+        println!("{} calls compared, with each of: {}; in {seconds} seconds", self.calls, names.join(", "));
         let is_asked = is_all_wanted && self.failures == 0;
         let missing = if is_asked { self.coverage.missing() } else { Vec::new() };
         if !missing.is_empty() {
@@ -168,5 +176,16 @@ impl<'a> Session<'a> {
             println!("ok: everything that has to come came");
         }
         std::process::exit((self.failures > 0 || !missing.is_empty()) as i32);
+    }
+}
+
+/// Prints the smallest run that shows how a subject differs, and both sides of its last call.
+fn show_smallest(subject: &Subject, batch: &Batch) {
+    let run = shrink(&batch.lines, |lines| difference(subject, &Batch::of(lines)).map(|found| found.at));
+    for line in &run {
+        println!("  {}", String::from_utf8_lossy(line));
+    }
+    if let Some(found) = difference(subject, &Batch::of(&run)) {
+        print!("  expected of the last call:\n{}  found:\n{}", found.expected, found.found);
     }
 }

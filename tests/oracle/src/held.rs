@@ -1,0 +1,83 @@
+//! What a link holds: all that a caller of the binding sees of it, also of the Rust's link.
+use crate::oracle::{Oracle, RECEIPTS, Started};
+use std::fmt;
+use tetra_core::{TdmaTime, TxReporter, TxState};
+use wipturay::Link;
+
+/// The receipt of a request.
+#[derive(Clone, Copy, PartialEq)]
+struct Receipt {
+    mark: TxState,
+    expects_ack: bool,
+}
+
+/// What is held after a call.
+#[derive(Clone, PartialEq)]
+pub struct Held {
+    /// Main carrier, T251 and time of a link that was started.
+    started: Option<(u16, u16, TdmaTime)>,
+    /// Acknowledged messages, unacknowledged messages, acknowledgements due, rows.
+    counts: [usize; 4],
+    /// The receipts that are held.
+    receipts: [Option<Receipt>; RECEIPTS],
+}
+
+impl Held {
+    /// What the Rust's link and its reporters hold.
+    pub fn by_oracle(oracle: &Oracle) -> Held {
+        let link = oracle.link.as_ref();
+        let receipt =
+            |reporter: &TxReporter| Receipt { mark: reporter.get_state(), expects_ack: reporter.is_acknowledged_service() };
+        Held {
+            started: link.map(|started| (started.llc.carrier(), started.t251, started.llc.time())),
+            counts: link.map_or([0; 4], |Started { llc, .. }| {
+                [llc.messages().len(), llc.unacknowledged().len(), llc.due().len(), llc.rows().len()]
+            }),
+            receipts: std::array::from_fn(|at| oracle.receipts[at].as_ref().map(receipt)),
+        }
+    }
+
+    /// What the proved link holds.
+    pub fn by_link(link: &Link) -> Held {
+        let wipturay::TdmaTime { t, f, m, h } = link.time();
+        Held {
+            started: link.is_started().then(|| (link.main_carrier(), link.t251(), TdmaTime { t, f, m, h })),
+            counts: [link.outbound_messages(), link.outbound_udata_messages(), link.scheduled_out_acks(), link.link_send_seqs()],
+            receipts: std::array::from_fn(|at| {
+                let receipt = link.receipt(at as u8)?;
+                Some(Receipt { mark: mark(receipt.state), expects_ack: receipt.expects_ack })
+            }),
+        }
+    }
+}
+
+/// The Rust's name of a mark.
+fn mark(state: wipturay::TxState) -> TxState {
+    match state {
+        wipturay::TxState::Pending => TxState::Pending,
+        wipturay::TxState::Discarded => TxState::Discarded,
+        wipturay::TxState::Transmitted => TxState::Transmitted,
+        wipturay::TxState::Lost => TxState::Lost,
+        wipturay::TxState::Acknowledged => TxState::Acknowledged,
+    }
+}
+
+impl fmt::Display for Held {
+    fn fmt(&self, f: &mut fmt::Formatter<'_>) -> fmt::Result {
+        match &self.started {
+            Some((carrier, t251, TdmaTime { h, m, f: frame, t })) => {
+                write!(f, "carrier {carrier:04x}, T251 {t251}, h {h} m {m} f {frame} t {t}")?
+            }
+            None => write!(f, "not started")?,
+        }
+        let [messages, unacknowledged, due, rows] = self.counts;
+        write!(f, "; {messages} acknowledged, {unacknowledged} unacknowledged, {due} due, {rows} rows")?;
+        for (number, receipt) in self.receipts.iter().enumerate() {
+            if let Some(Receipt { mark, expects_ack }) = receipt {
+                let expects = if *expects_ack { "expects" } else { "does not expect" };
+                write!(f, "; receipt {number} {mark:?}, {expects} an acknowledgement")?;
+            }
+        }
+        Ok(())
+    }
+}
