@@ -74,28 +74,28 @@ struct wipturay_link_send_seq {
     bool vs;
 };
 
-/** The link. Of each array so many elements count as the number before it says; of the receipts those that are taken. */
+/** The link. Of each array so many elements count as its number says; of the receipts those that are taken. */
 struct wipturay_state {
     bool started;
     uint16_t main_carrier;
     uint16_t t251;
     struct wipturay_tdma_time dltime;
     size_t n_messages;
-    struct wipturay_entry outbound_messages[64];
     size_t n_udata;
-    struct wipturay_entry outbound_udata_messages[32];
     size_t n_acks;
+    size_t n_rows;
+    struct wipturay_entry outbound_messages[64];
+    struct wipturay_entry outbound_udata_messages[32];
     struct wipturay_scheduled_out_ack scheduled_out_acks[64];
     struct wipturay_receipt_place receipts[128];
-    size_t n_rows;
     struct wipturay_link_send_seq link_send_seq[256];
 };
 
 /** What a call gives. */
 struct wipturay_answer {
-    uint8_t number; /**< 0 if the call was accepted, else the number of the first question that it fails. */
     struct wipturay_state state; /**< The state after the call. */
     size_t len; /**< How many bytes at the front of the output are records of this call. */
+    uint8_t number; /**< 0 if the call was accepted, else the number of the first question that it fails. */
 };
 
 static_assert(sizeof(struct wipturay_tdma_time) == 6, "wipturay_tdma_time");

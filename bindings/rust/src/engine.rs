@@ -21,9 +21,9 @@ impl Engine {
     pub fn new() -> Engine {
         Engine {
             answer: Answer {
-                number: 0,
                 state: wipturay_new(),
                 len: 0,
+                number: 0,
             },
             store: [0; STORE],
             output: [0; OUTPUT],

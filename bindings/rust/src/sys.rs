@@ -83,13 +83,13 @@ pub struct State {
     pub t251: u16,
     pub dltime: TdmaTime,
     pub n_messages: usize,
-    pub outbound_messages: [Entry; 64],
     pub n_udata: usize,
-    pub outbound_udata_messages: [Entry; 32],
     pub n_acks: usize,
+    pub n_rows: usize,
+    pub outbound_messages: [Entry; 64],
+    pub outbound_udata_messages: [Entry; 32],
     pub scheduled_out_acks: [ScheduledOutAck; 64],
     pub receipts: [ReceiptPlace; 128],
-    pub n_rows: usize,
     pub link_send_seq: [LinkSendSeq; 256],
 }
 
@@ -98,9 +98,9 @@ pub struct State {
 #[repr(C)]
 #[derive(Clone, Copy, Debug, PartialEq)]
 pub struct Answer {
-    pub number: u8,
     pub state: State,
     pub len: usize,
+    pub number: u8,
 }
 
 // SAFETY: these are the functions that the archive exports, with these structs.

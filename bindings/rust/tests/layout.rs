@@ -48,10 +48,10 @@ fn mirrored() -> Vec<(&'static str, Layout)> {
         ReceiptPlace { taken, expects_ack, state }
         LinkSendSeq { ssi, vs }
         State {
-            started, main_carrier, t251, dltime, n_messages, outbound_messages, n_udata, outbound_udata_messages, n_acks,
-            scheduled_out_acks, receipts, n_rows, link_send_seq
+            started, main_carrier, t251, dltime, n_messages, n_udata, n_acks, n_rows, outbound_messages, outbound_udata_messages,
+            scheduled_out_acks, receipts, link_send_seq
         }
-        Answer { number, state, len }
+        Answer { state, len, number }
     }
 }
 

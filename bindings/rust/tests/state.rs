@@ -56,13 +56,13 @@ const NEW: State = State {
     t251: 0,
     dltime: FIRST,
     n_messages: 0,
-    outbound_messages: [NO_ENTRY; 64],
     n_udata: 0,
-    outbound_udata_messages: [NO_ENTRY; 32],
     n_acks: 0,
+    n_rows: 0,
+    outbound_messages: [NO_ENTRY; 64],
+    outbound_udata_messages: [NO_ENTRY; 32],
     scheduled_out_acks: [NO_ACK; 64],
     receipts: [NO_RECEIPT; 128],
-    n_rows: 0,
     link_send_seq: [NO_ROW; 256],
 };
 

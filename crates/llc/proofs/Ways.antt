@@ -85,7 +85,7 @@ module _
   pub turned-down : (questionOf d (s .started) ≡ 0 → ⊥) → effect (answer (questionOf d (s .started)) s 0) store out ≡ callOf s store out bytes
   turned-down h = sym (called-is ∙ ap (delivered s store out) (told d bytes s store inside .0 (ne-eqb _ 0 h)))
 
-  pub goes-through : questionOf d (s .started) ≡ 0 → delivered s store out (performed (decoded d bytes) s store) ≡ callOf s store out bytes
+  goes-through : questionOf d (s .started) ≡ 0 → delivered s store out (performed (decoded d bytes) s store) ≡ callOf s store out bytes
   goes-through h = sym (called-is ∙ ap (delivered s store out) (told d bytes s store inside .1 (eq-eqb _ 0 h)))
 
 -- A call that goes through is in range.
@@ -93,7 +93,7 @@ through-by : (n : ℕ) (a b : Bool) → eqb (cond (eqb n 0) (cond a (cond b 0 5)
 through-by n a true h = refl
 through-by n a false h = by-test (eqb n 0) (λ e. by-test a (λ k. clash (rw (e, k) at h) refl) (λ k. clash (rw (e, k) at h) refl)) (λ e. clash (rw e at h) e)
 
-pub through-in-range : (d : Decoded) (started : Bool) → questionOf d started ≡ 0 → inRangeOf d ≡ true
+through-in-range : (d : Decoded) (started : Bool) → questionOf d started ≡ 0 → inRangeOf d ≡ true
 unfolding questionOf
 through-in-range d started h = through-by (unreadOf d) (startsOf d || started) (inRangeOf d) (eq-eqb _ 0 h)
 
@@ -134,13 +134,47 @@ module _ (d : Decoded) (started : Bool) where
       ∙ first-asked e h
 
 -- What question 1 tells of the lengths.
-pub lent-tells : (store out : List ℕ) → lentRight (bits store) out ≡ true → (length store ≡ 32256) × (46656 ≤ length out)
+lent-tells : (store out : List ℕ) → lentRight (bits store) out ≡ true → (length store ≡ 32256) × (46656 ≤ length out)
 unfolding lentRight
 lent-tells store out h =
     let t = both {x = eqb (length (bits store)) (8 * 32256)} {y = leb 46656 (length out)} h in
     let long : length (bits store) ≡ 8 * length store = length-bits store in
     let n = eqb-true (length (bits store)) (8 * 32256) (t .0) in
     (omega arith, leb-true 46656 (length out) (t .1))
+
+-- What is known once a call has passed questions 1 to 5.
+pub record Passed (s : State) (store out bytes : List ℕ) (d : Decoded) : Type 0 where
+  pub state : inRange s ≡ true
+  pub places : length store ≡ 32256
+  pub room : 46656 ≤ length out
+  pub values : inRangeOf d ≡ true
+  pub inside : Inside d bytes
+  pub through : delivered s (bits store) out (performed (decoded d bytes) s (bits store)) ≡ callOf s (bits store) out bytes
+
+pub passed :
+    (s : State) (store out bytes : List ℕ) (d : Decoded) {lent fits : Bool} {n : ℕ}
+    → lent ≡ lentRight (bits store) out
+    → not lent ≡ false
+    → fits ≡ inRange s
+    → not fits ≡ false
+    → decoded d bytes ≡ parsed bytes
+    → Inside d bytes
+    → n ≡ questionOf d (s .started)
+    → n ≡ 0
+    → Passed s store out bytes d
+passed s store out bytes d {lent} {fits} l t f u read inside q z =
+    let right : lentRight (bits store) out ≡ true = sym l ∙ not-false lent t in
+    let range : inRange s ≡ true = sym f ∙ not-false fits u in
+    let asked : questionOf d (s .started) ≡ 0 = sym q ∙ z in
+    let long = lent-tells store out right in
+    record {
+      state = range;
+      places = long .0;
+      room = long .1;
+      values = through-in-range d (s .started) asked;
+      inside = inside;
+      through = goes-through s (bits store) out bytes d right range read inside asked;
+    }
 
 -- Each call, once it is known which it is --------------------------------------------------------------------------------
 

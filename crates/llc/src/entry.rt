@@ -1,15 +1,20 @@
-// Any bytes from any caller: questions 1 to 5, and then the call.
+// Any bytes from any caller: questions 1 to 5, and then each call goes to its own function.
 ghost use mathlib.Core.Path.{_≡_};
 ghost use Rattle.bits.specs.Bits.{bits};
 ghost use Rattle.llc_steps.specs.Answers.{effect};
 ghost use Rattle.llc.specs.Entry.{lentRight, callOf};
 ghost use Rattle.llc.specs.Questions.{unreadOf, startsOf, questionOf};
-use crate::dispatch::dispatch;
 use llc_calls::Decoded;
 use llc_calls::decode;
 use llc_calls::in_range;
+use llc_frames::release;
+use llc_frames::rx_tma_report_ind;
+use llc_frames::rx_tma_unitdata_ind;
+use llc_requests::rx_tla_tldata_req_bl;
+use llc_requests::rx_tla_tlunitdata_req_bl;
 use llc_state::State;
 use llc_steps::Answer;
+use llc_tick_end::tick_end;
 
 /// How many bytes the store has.
 pub const STORE: usize = 32_256;
@@ -92,5 +97,16 @@ pub fn call(state: State, store: &mut [u8], out: &mut [u8], bytes: &[u8]) -> Ans
     if number != 0 {
         return Answer::refused(number, state);
     }
-    dispatch(state, store, out, call, bytes)
+    match call {
+        Decoded::Start(carrier, t251) => Answer::accepted(State::start(carrier, t251), 0),
+        Decoded::TickStart(time) => Answer::accepted(state.tick_start(time), 0),
+        Decoded::TickEnd => tick_end(state, store, out),
+        Decoded::DataRequest(q) => rx_tla_tldata_req_bl(state, store, q, bytes),
+        Decoded::UnitdataRequest(q) => rx_tla_tlunitdata_req_bl(state, store, q, bytes),
+        Decoded::Frame(f) => rx_tma_unitdata_ind(state, out, f, bytes),
+        Decoded::Report(receipt, how) => rx_tma_report_ind(state, receipt, how),
+        Decoded::Release(receipt) => release(state, receipt),
+        Decoded::Unfilled => Answer::refused(2, state),
+        Decoded::Unknown => Answer::refused(3, state),
+    }
 }

@@ -1,5 +1,4 @@
 // The basic link of a base station, from tetra-entities' llc_bs_ms.rs: its entry point.
-mod dispatch;
 mod entry;
 
 pub use entry::OUTPUT;

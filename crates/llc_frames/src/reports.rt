@@ -13,7 +13,7 @@ use llc_steps::Answer;
 use tx_receipt::TxState;
 
 /// A report: 1 transmitted, 2 discarded.
-pub fn rx_tma_report_ind(state: State, receipt: u8, how: u8) -> Answer
+pub fn rx_tma_report_ind(mut state: State, receipt: u8, how: u8) -> Answer
     requires { ⌜ inRange state ≡ true ⌝ }
     requires { ⌜ receipt < 128 ⌝ }
     ensures { λ r. ⌜ WithAny r state (λ (store : List ℕ). onReport receipt how state store) ⌝ }
@@ -28,9 +28,11 @@ pub fn rx_tma_report_ind(state: State, receipt: u8, how: u8) -> Answer
         return Answer::refused(15, state);
     }
     if how == 1 {
-        return Answer::accepted(state.mark_receipt(i, TxState::Transmitted), 0);
+        state.receipts[i] = place.marked(TxState::Transmitted);
+        return Answer::accepted(state, 0);
     }
-    Answer::accepted(state.mark_receipt(i, TxState::Discarded), 0)
+    state.receipts[i] = place.marked(TxState::Discarded);
+    Answer::accepted(state, 0)
 }
 
 /// A release: a receipt that is final, and whose message is no longer held, is free again.

@@ -1,37 +1,25 @@
--- The loops that move the elements of an array by one place, and those that empty it.
-use Prim.Native.Nat.{ℕ, zero, suc, _+_, _-_, _≤_, _<_}
+-- The loops that move the elements of an array by one place.
+use Prim.Native.Nat.{ℕ, suc, _+_, _-_, _≤_, _<_}
 use native.Mathlib.Omega.{arith}
-use mathlib.Core.Path.{_≡_, refl, sym, _∙_, ap, ap₂}
-use mathlib.Core.List.{List, [], _∷_, _++_}
-use lib.ListN.{length, take, drop, getD, set, replicate, length-replicate, take-append-drop, List·getD-append}
+use mathlib.Core.Path.{_≡_, sym, _∙_, ap, ap₂}
+use mathlib.Core.List.{List, _∷_, _++_}
+use lib.ListN.{length, take, drop, getD, set, replicate, take-append-drop, List·getD-append}
 use lib.Seq.{length-take-le, take-suc, drop-cons, append-snoc, getD-append-add, getD-take, getD-drop, set-at, take-at}
 use Rattle.llc_state.specs.declared.State.{State}
 use Rattle.llc_steps.specs.Arrays.{laid}
 use Rattle.llc_steps.specs.Queues.{without, fronted}
-use Rattle.llc_steps.proofs.Laid.{laid-fewer, laid-more, laid-none}
+use Rattle.llc_steps.proofs.Laid.{laid-fewer, laid-more}
 use Rattle.llc_queues.proofs.Without.{length-without, take-without, drop-without, getD-before, getD-behind}
 use Rattle.llc_queues.proofs.Arrays.{Array, used, holding}
 
 module _ {A : Type 0} where
   -- A store behind the first elements.
-  set-behind :
+  pub set-behind :
       (p l : List A) (j : ℕ) (x : A)
       → length p ≡ j
       → j < length l
       → set (p ++ drop j l) j x ≡ p ++ (x ∷ drop (suc j) l)
   set-behind p l j x e h = rw (drop-cons l j x h) (set-at p (getD l j x) (drop (suc j) l) x j e)
-
-  -- The first i elements emptied.
-  abbrev emptied : A → ℕ → List A → List A
-  emptied empty i l = replicate i empty ++ drop i l
-
-  replicate-cons : (i : ℕ) (x : A) (l : List A) → replicate i x ++ (x ∷ l) ≡ x ∷ (replicate i x ++ l)
-  replicate-cons zero x l = refl
-  replicate-cons (suc i) x l = ap (λ (t : List A). x ∷ t) (replicate-cons i x l)
-
-  emptied-next : (empty : A) (i : ℕ) (l : List A) → i < length l → set (emptied empty i l) i empty ≡ emptied empty (suc i) l
-  emptied-next empty i l h =
-      set-behind (replicate i empty) l i empty (length-replicate i empty) h ∙ replicate-cons i empty (drop (suc i) l)
 
   -- The elements behind place i moved to the front by one, up to place j.
   abbrev advanced : ℕ → ℕ → List A → List A
@@ -137,7 +125,7 @@ module _ {A : Type 0} where
 
   module _ (a : Array A) (s : State) where
     -- A store into the array of a state that is s but for that array.
-    stored :
+    pub stored :
         {next : State} {k : ℕ} {l : List A}
         → next ≡ a .put s k l
         → (m : ℕ) (f : List A → List A)
@@ -147,7 +135,7 @@ module _ {A : Type 0} where
         ∙ a .put-put s k m l (f (a .of (a .put s k l)))
         ∙ ap (λ (t : List A). a .put s m (f t)) (a .of-put s k l)
 
-    stored-same :
+    pub stored-same :
         {next : State} {l : List A}
         → next ≡ a .put s (a .count s) l
         → (f : List A → List A)
@@ -155,39 +143,6 @@ module _ {A : Type 0} where
     stored-same {next} {l} h f =
         ap (λ (n : ℕ). a .put next n (f (a .of next))) (ap (a .count) h ∙ a .count-put s (a .count s) l)
         ∙ stored h (a .count s) f
-
-    -- Before turn i of the loop that empties the array, its first i elements are empty.
-    pub record Clearing (next : State) (i : ℕ) : Type 0 where
-      pub low : i ≤ a .count s
-      pub long : a .count s ≤ length (a .of s)
-      pub holds : next ≡ a .put s (a .count s) (emptied (a .empty) i (a .of s))
-
-    pub clearing-begins : a .count s ≤ length (a .of s) → Clearing s 0
-    clearing-begins h = record { low = omega arith; long = h; holds = sym (a .put-same s) }
-
-    pub clearing-goes-on :
-        {next : State} {i : ℕ} (x : A)
-        → Clearing next i
-        → x ≡ a .empty
-        → i < a .count s
-        → Clearing (a .put next (a .count next) (set (a .of next) i x)) (i + 1)
-    clearing-goes-on {next} {i} x inv e h =
-        let f : i + 1 ≡ suc i = omega arith in
-        record {
-          low = omega arith;
-          long = inv .long;
-          holds =
-              rw (e, f)
-              (stored-same (inv .holds) (λ (t : List A). set t i (a .empty))
-              ∙ ap (a .put s (a .count s)) (emptied-next (a .empty) i (a .of s) (omega arith)));
-        }
-
-    pub clearing-ends : {next : State} {i : ℕ} → Clearing next i → a .count s ≤ i → a .put next 0 (a .of next) ≡ holding a s []
-    clearing-ends {next} {i} inv h =
-        let e : i ≡ a .count s = omega arith in
-        stored (inv .holds) 0 (λ (t : List A). t)
-        ∙ ap (λ (k : ℕ). a .put s 0 (emptied (a .empty) k (a .of s))) e
-        ∙ ap (a .put s 0) (sym (laid-none (a .empty) (a .count s) (a .of s)))
 
     -- Before turn j of the loop that takes the element of place i out, those behind it are moved up to place j.
     pub record Taking (i : ℕ) (next : State) (j : ℕ) : Type 0 where

@@ -8,8 +8,6 @@ pub use searches::holds;
 pub use searches::out_ack_if_any;
 pub use searches::send_seq_row;
 pub use searches::waits;
-pub use updates::clear_out_acks;
-pub use updates::clear_udata_messages;
 pub use updates::push_front_expected_ack;
 pub use updates::push_message;
 pub use updates::push_udata_message;

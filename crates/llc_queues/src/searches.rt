@@ -1,20 +1,23 @@
 // Searches: each goes through what is in use, oldest first.
 ghost use Prim.Native.Nat.{_≤_};
 ghost use mathlib.Core.Path.{_≡_};
-ghost use Rattle.llc_steps.specs.States.{messagesOf, acksOf, rowsOf};
+ghost use lib.ListN.{take};
+ghost use Rattle.llc_steps.specs.States.{messagesOf};
 ghost use Rattle.llc_steps.specs.Queues.{position, ackOn, rowOf, expectedOn};
 ghost use Rattle.llc_steps.specs.Places.{freePlace};
 ghost use Rattle.llc_steps.specs.Calls.{held, waits as waitsIn};
+use llc_state::LinkSendSeq;
+use llc_state::ScheduledOutAck;
 use llc_state::State;
 
-/// The place of the oldest acknowledgement due on an SSI and carrier; the count if there is none.
-pub fn out_ack_if_any(state: State, ssi: u32, carrier_num: u16) -> usize
-    requires { ⌜ state .«n_acks» ≤ 64 ⌝ }
-    ensures { λ r. ⌜ r ≡ position (ackOn ssi «carrier_num») (acksOf state) ⌝ }
+/// The place of the oldest of n due acknowledgements on an SSI and carrier; n if there is none.
+pub fn out_ack_if_any(acks: [ScheduledOutAck; 64], n: usize, ssi: u32, carrier_num: u16) -> usize
+    requires { ⌜ n ≤ 64 ⌝ }
+    ensures { λ r. ⌜ r ≡ position (ackOn ssi «carrier_num») (take n acks) ⌝ }
 {
     let mut i = 0;
-    while i < state.n_acks {
-        let ack = state.scheduled_out_acks[i];
+    while i < n {
+        let ack = acks[i];
         if (ack.ssi == ssi) & (ack.carrier_num == carrier_num) {
             return i;
         }
@@ -23,14 +26,14 @@ pub fn out_ack_if_any(state: State, ssi: u32, carrier_num: u16) -> usize
     i
 }
 
-/// The place of an SSI's row; the count if it has none.
-pub fn send_seq_row(state: State, ssi: u32) -> usize
-    requires { ⌜ state .«n_rows» ≤ 256 ⌝ }
-    ensures { λ r. ⌜ r ≡ position (rowOf ssi) (rowsOf state) ⌝ }
+/// The place of an SSI's row among n; n if it has none.
+pub fn send_seq_row(rows: [LinkSendSeq; 256], n: usize, ssi: u32) -> usize
+    requires { ⌜ n ≤ 256 ⌝ }
+    ensures { λ r. ⌜ r ≡ position (rowOf ssi) (take n rows) ⌝ }
 {
     let mut i = 0;
-    while i < state.n_rows {
-        let row = state.link_send_seq[i];
+    while i < n {
+        let row = rows[i];
         if row.ssi == ssi {
             return i;
         }

@@ -3,7 +3,7 @@ ghost use Prim.Native.Nat.{_≤_, _<_};
 ghost use mathlib.Core.Path.{_≡_};
 ghost use mathlib.Core.Bool.{true, cond};
 ghost use lib.Dec.{eqb, ltb};
-ghost use lib.ListN.{length, getD};
+ghost use lib.ListN.{length, getD, take};
 ghost use Rattle.bits.specs.Bits.{bits};
 ghost use Rattle.questions.specs.Outcome.{accepted};
 ghost use Rattle.llc_calls.specs.Decoded.{requestOf, RequestInside};
@@ -27,6 +27,7 @@ use llc_queues::send_seq_row;
 use llc_queues::set_send_seq;
 use llc_queues::take_out_ack;
 use llc_state::LinkSendSeq;
+use llc_state::ScheduledOutAck;
 use llc_state::State;
 use llc_steps::Answer;
 
@@ -40,28 +41,28 @@ fn preferred_carrier(q: RequestCall, main_carrier: u16) -> u16
     main_carrier
 }
 
-// The bit of the row of a place; not set where there is none yet.
-fn send_seq(state: State, row: usize) -> bool
-    requires { ⌜ state .«n_rows» ≤ 256 ⌝ }
-    ensures { λ r. ⌜ r ≡ getD (rowsOf state) row noRow .vs ⌝ }
+// The bit of the row of a place among n; not set where there is none yet.
+fn send_seq(rows: [LinkSendSeq; 256], n: usize, row: usize) -> bool
+    requires { ⌜ n ≤ 256 ⌝ }
+    ensures { λ r. ⌜ r ≡ getD (take n rows) row noRow .vs ⌝ }
 {
-    if state.n_rows <= row {
+    if n <= row {
         return false;
     }
-    state.link_send_seq[row].vs
+    rows[row].vs
 }
 
-// BL-ADATA with the N(R) of the acknowledgement due at a place, or BL-DATA where there is none.
-fn data_pdu(state: State, ack: usize, has_fcs: bool, ns: bool) -> Pdu
-    requires { ⌜ state .«n_acks» ≤ 64 ⌝ }
-    ensures { λ r. ⌜ r ≡ cond (ltb ack (state .«n_acks»)) (BlAdata «has_fcs» (getD (acksOf state) ack noAck .nr) ns) (BlData «has_fcs» ns) ⌝ }
+// BL-ADATA with the N(R) of the acknowledgement at a place among n, or BL-DATA where there is none.
+fn data_pdu(acks: [ScheduledOutAck; 64], n: usize, ack: usize, has_fcs: bool, ns: bool) -> Pdu
+    requires { ⌜ n ≤ 64 ⌝ }
+    ensures { λ r. ⌜ r ≡ cond (ltb ack n) (BlAdata «has_fcs» (getD (take n acks) ack noAck .nr) ns) (BlData «has_fcs» ns) ⌝ }
 {
-    if state.n_acks <= ack {
+    if n <= ack {
         return Pdu::BlData { has_fcs, ns };
     }
     Pdu::BlAdata {
         has_fcs,
-        nr: state.scheduled_out_acks[ack].nr,
+        nr: acks[ack].nr,
         ns,
     }
 }
@@ -84,9 +85,11 @@ fn put_acknowledged(
     ensures { λ r. ⌜ WithAnyOut r (bits (now (store .exit))) state (bits (now (store .entry))) (accepted (withAcknowledged (requestOf q (now (bytes .entry))) state (bits (now (store .entry))))) ⌝ }
 {
     let carrier = preferred_carrier(q, state.main_carrier);
-    let ack = out_ack_if_any(state, q.ssi, carrier);
-    let ns = send_seq(state, row);
-    let pdu = data_pdu(state, ack, q.flags / 2 % 2 == 1, ns);
+    let acks = state.scheduled_out_acks;
+    let rows = state.link_send_seq;
+    let ack = out_ack_if_any(acks, state.n_acks, q.ssi, carrier);
+    let ns = send_seq(rows, state.n_rows, row);
+    let pdu = data_pdu(acks, state.n_acks, ack, q.flags / 2 % 2 == 1, ns);
     let place = free_place(state);
     let len = put_frame(store, place, pdu, q, bytes);
     let e = entry_of(q, bytes, carrier, 0, place, len, ns);
@@ -143,7 +146,8 @@ pub fn rx_tla_tldata_req_bl(state: State, store: &mut [u8], q: RequestCall, byte
     }
     let steals = q.flags % 2 == 1;
     if (q.ssi_type == 1) & !steals {
-        let row = send_seq_row(state, q.ssi);
+        let rows = state.link_send_seq;
+        let row = send_seq_row(rows, state.n_rows, q.ssi);
         if 256 <= row {
             return Answer::refused(7, state);
         }
@@ -156,7 +160,9 @@ pub fn rx_tla_tldata_req_bl(state: State, store: &mut [u8], q: RequestCall, byte
         return Answer::refused(8, state);
     }
     if steals {
-        let ack = out_ack_if_any(state, q.ssi, preferred_carrier(q, state.main_carrier));
+        let carrier = preferred_carrier(q, state.main_carrier);
+        let acks = state.scheduled_out_acks;
+        let ack = out_ack_if_any(acks, state.n_acks, q.ssi, carrier);
         if ack < state.n_acks {
             let pdu = Pdu::BlAck {
                 has_fcs: q.flags / 2 % 2 == 1,

@@ -23,9 +23,9 @@ pub lengths : (s : State) → Is (row the-type) s (S.vals the-type the-laws s) �
 lengths s p =
     let q = p .1 .1 .1 .1 .1 .1 .1 in
     record {
-      messages = sym (length-map (s .«outbound_messages») (Entry.the-type .to)) ∙ q .0 .1 .0 .1;
-      udata = sym (length-map (s .«outbound_udata_messages») (Entry.the-type .to)) ∙ q .1 .1 .0 .1 .0 .1;
-      acks = sym (length-map (s .«scheduled_out_acks») (ScheduledOutAck.the-type .to)) ∙ q .1 .1 .1 .1 .0 .1 .0 .1;
-      places = sym (length-map (s .receipts) (ReceiptPlace.the-type .to)) ∙ q .1 .1 .1 .1 .1 .0 .1 .0 .1;
+      messages = sym (length-map (s .«outbound_messages») (Entry.the-type .to)) ∙ q .1 .1 .1 .0 .1 .0 .1;
+      udata = sym (length-map (s .«outbound_udata_messages») (Entry.the-type .to)) ∙ q .1 .1 .1 .1 .0 .1 .0 .1;
+      acks = sym (length-map (s .«scheduled_out_acks») (ScheduledOutAck.the-type .to)) ∙ q .1 .1 .1 .1 .1 .0 .1 .0 .1;
+      places = sym (length-map (s .receipts) (ReceiptPlace.the-type .to)) ∙ q .1 .1 .1 .1 .1 .1 .0 .1 .0 .1;
       rows = sym (length-map (s .«link_send_seq») (LinkSendSeq.the-type .to)) ∙ q .1 .1 .1 .1 .1 .1 .1 .0 .1 .0 .1;
     }

@@ -70,7 +70,7 @@ pub struct LinkSendSeq {
     pub vs: bool,
 }
 
-/// The link.
+/// The link. The counts stand together, in front of the arrays.
 #[repr(C)]
 pub struct State {
     pub started: bool,
@@ -78,12 +78,12 @@ pub struct State {
     pub t251: u16,
     pub dltime: TdmaTime,
     pub n_messages: usize,
-    pub outbound_messages: [Entry; 64],
     pub n_udata: usize,
-    pub outbound_udata_messages: [Entry; 32],
     pub n_acks: usize,
+    pub n_rows: usize,
+    pub outbound_messages: [Entry; 64],
+    pub outbound_udata_messages: [Entry; 32],
     pub scheduled_out_acks: [ScheduledOutAck; 64],
     pub receipts: [ReceiptPlace; 128],
-    pub n_rows: usize,
     pub link_send_seq: [LinkSendSeq; 256],
 }

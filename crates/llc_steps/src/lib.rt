@@ -6,12 +6,12 @@ use llc_state::State;
 /// What a call gives: its number, the next state, and how many bytes of the output are its records.
 #[repr(C)]
 pub struct Answer {
-    /// 0 if the call was accepted, else the number of the first question that it fails.
-    pub number: u8,
     /// The state after the call.
     pub state: State,
     /// How many bytes at the front of the output are records of this call.
     pub len: usize,
+    /// 0 if the call was accepted, else the number of the first question that it fails.
+    pub number: u8,
 }
 
 impl Answer {

@@ -1,6 +1,7 @@
 pub mod Blocked
 pub mod Clearing
 pub mod Compacting
+pub mod Draining
 pub mod Entries
 pub mod FreeMessages
 pub mod GivenUp

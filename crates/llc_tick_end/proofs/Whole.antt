@@ -83,17 +83,20 @@ tick-bytes :
 unfolding tickRecords sentBytesOf replyBytesOf udataBytesOf
 tick-bytes s store = simp allBytes-append
 
--- What the second pass needs of the state and the output that it finds, and what the last two passes and the clears do.
+-- What each pass behind the first needs of the state and the output that it finds.
 pub record Second (store : List ℕ) (s : State) (out : List ℕ) (at : ℕ) : Type 0 where
   pub few : s .«n_messages» ≤ 64
   pub entries : all entryInRange (messagesOf s) ≡ true
   pub room : at + length (sentBytesOf store (sendings s .out)) ≤ length out
 
-pub record Last (store : List ℕ) (s : State) (out : List ℕ) (at : ℕ) : Type 0 where
+pub record Third (s : State) (out : List ℕ) (at : ℕ) : Type 0 where
   pub acks : s .«n_acks» ≤ 64
+  pub room : at + length (replyBytesOf (acksOf s)) ≤ length out
+
+pub record Fourth (store : List ℕ) (s : State) (out : List ℕ) (at : ℕ) : Type 0 where
   pub udata : s .«n_udata» ≤ 32
   pub entries : all entryInRange (udataOf s) ≡ true
-  pub room : at + (length (replyBytesOf (acksOf s)) + length (udataBytesOf store (udataOf s))) ≤ length out
+  pub room : at + length (udataBytesOf store (udataOf s)) ≤ length out
 
 module _ (s : State) (store out : List ℕ) (long : Lengths s) (range : inRange s ≡ true) (room : 46656 ≤ length out) where
   -- Room for all of them.
@@ -141,41 +144,52 @@ module _ (s : State) (store out : List ℕ) (long : Lengths s) (range : inRange 
       acks-are : replyBytesOf (acksOf s₂) ≡ replyBytesOf (acksOf s)
       acks-are = ap (λ (x : State). replyBytesOf (acksOf x)) both-are
 
-      udata-are : udataBytesOf store (udataOf s₂) ≡ udataBytesOf store (udataOf s)
-      udata-are = ap (λ (x : State). udataBytesOf store (udataOf x)) both-are
-
-      pub last : Last store s₂ out₂ at₂
-      last =
-          let r = range-tells s range in
-          let acks : s₂ .«n_acks» ≡ s .«n_acks» = ap (λ (x : State). x .«n_acks») both-are in
-          let udata : s₂ .«n_udata» ≡ s .«n_udata» = ap (λ (x : State). x .«n_udata») both-are in
+      pub third : Third s₂ out₂ at₂
+      third =
+          let count : s₂ .«n_acks» ≡ s .«n_acks» = ap (λ (x : State). x .«n_acks») both-are in
           record {
-            acks = omega (arith, acks, r .head .acks);
-            udata = omega (arith, udata, r .head .udata);
-            entries = ap (λ (x : State). all entryInRange (udataOf x)) both-are ∙ r .udata;
-            room =
-                omega (arith, sizes, w₁ .next, w₂ .next, as-long w₁, as-long w₂, ap length sent-bytes, ap length acks-are, ap length udata-are);
+            acks = omega (arith, count, range-tells s range .head .acks);
+            room = omega (arith, sizes, w₁ .next, w₂ .next, as-long w₁, as-long w₂, ap length sent-bytes, ap length acks-are);
           }
 
-      -- The state, the bytes of the output and the place behind them are those of a tick end.
-      pub tick-end-is :
-          {s₃ s₄ : State} {out₃ out₄ : List ℕ} {at₃ at₄ : ℕ}
-          → Wrote out₂ at₂ (replyBytesOf (acksOf s₂)) out₃ at₃
-          → Wrote out₃ at₃ (udataBytesOf store (udataOf s₂)) out₄ at₄
-          → s₃ ≡ withAcks s₂ []
-          → s₄ ≡ withUdata s₃ []
-          → effect (answer 0 s₄ at₄) store out₄ ≡ delivered s store out (acts tickEnd s store)
-      unfolding acts laidOut
-      tick-end-is {s₃} {s₄} {out₃} {out₄} {at₃} {at₄} w₃ w₄ e₃ e₄ =
-          let vs : List ℕ = allBytes (tickRecords s store) in
-          let w : Wrote out 0 vs out₄ at₄ =
-          same-bytes (sym (tick-bytes s store)) (w₁ ⨾ (same-bytes sent-bytes w₂ ⨾ (same-bytes acks-are w₃ ⨾ same-bytes udata-are w₄))) in
-          let state : s₄ ≡ ticked s =
-          e₄ ∙ ap (λ (x : State). withUdata x []) (e₃ ∙ ap (λ (x : State). withAcks x []) both-are) ∙ passed-is s long range in
-          let behind : 0 + length vs ≡ length vs = zero-add (length vs) in
-          let bytes : out₄ ≡ vs ++ drop (length vs) out =
-          w .holds
-          ∙ write-is out 0 vs (omega (arith, tick-room s store long range, room))
-          ∙ ap (λ (k : ℕ). vs ++ drop k out) behind in
-          λ i.
-          record { answer = record { number = 0; state = state i; len = (w .next ∙ behind) i }; store = store; out = bytes i }
+      -- Behind the third.
+      module _
+          {s₃ : State} {out₃ : List ℕ} {at₃ : ℕ}
+          (e₃ : s₃ ≡ withAcks s₂ [])
+          (w₃ : Wrote out₂ at₂ (replyBytesOf (acksOf s₂)) out₃ at₃) where
+        three-are : s₃ ≡ withAcks (afterSendings (afterRetransmissions s)) []
+        three-are = e₃ ∙ ap (λ (x : State). withAcks x []) both-are
+
+        udata-are : udataBytesOf store (udataOf s₃) ≡ udataBytesOf store (udataOf s)
+        udata-are = ap (λ (x : State). udataBytesOf store (udataOf x)) three-are
+
+        pub fourth : Fourth store s₃ out₃ at₃
+        fourth =
+            let r = range-tells s range in
+            let count : s₃ .«n_udata» ≡ s .«n_udata» = ap (λ (x : State). x .«n_udata») three-are in
+            record {
+              udata = omega (arith, count, r .head .udata);
+              entries = ap (λ (x : State). all entryInRange (udataOf x)) three-are ∙ r .udata;
+              room =
+                  omega (arith, sizes, w₁ .next, w₂ .next, w₃ .next, as-long w₁, as-long w₂, as-long w₃, ap length sent-bytes, ap length acks-are, ap length udata-are);
+            }
+
+        -- The state, the bytes of the output and the place behind them are those of a tick end.
+        pub tick-end-is :
+            {s₄ : State} {out₄ : List ℕ} {at₄ : ℕ}
+            → s₄ ≡ withUdata s₃ []
+            → Wrote out₃ at₃ (udataBytesOf store (udataOf s₃)) out₄ at₄
+            → effect (answer 0 s₄ at₄) store out₄ ≡ delivered s store out (acts tickEnd s store)
+        unfolding acts laidOut
+        tick-end-is {s₄} {out₄} {at₄} e₄ w₄ =
+            let vs : List ℕ = allBytes (tickRecords s store) in
+            let w : Wrote out 0 vs out₄ at₄ =
+            same-bytes (sym (tick-bytes s store)) (w₁ ⨾ (same-bytes sent-bytes w₂ ⨾ (same-bytes acks-are w₃ ⨾ same-bytes udata-are w₄))) in
+            let state : s₄ ≡ ticked s = e₄ ∙ ap (λ (x : State). withUdata x []) three-are ∙ passed-is s long range in
+            let behind : 0 + length vs ≡ length vs = zero-add (length vs) in
+            let bytes : out₄ ≡ vs ++ drop (length vs) out =
+            w .holds
+            ∙ write-is out 0 vs (omega (arith, tick-room s store long range, room))
+            ∙ ap (λ (k : ℕ). vs ++ drop k out) behind in
+            λ i.
+            record { answer = record { number = 0; state = state i; len = (w .next ∙ behind) i }; store = store; out = bytes i }

@@ -12,8 +12,6 @@ use crate::free_messages::submit_free_messages_to_umac;
 use crate::replies::submit_ack_replies_to_umac;
 use crate::retransmissions::submit_retransmissions_to_umac;
 use crate::udata::submit_udata_msgs_to_umac;
-use llc_queues::clear_out_acks;
-use llc_queues::clear_udata_messages;
 use llc_state::State;
 use llc_steps::Answer;
 
@@ -27,6 +25,6 @@ pub fn tick_end(state: State, store: &[u8], out: &mut [u8]) -> Answer
     let resent = submit_retransmissions_to_umac(state, store, out);
     let sent = submit_free_messages_to_umac(resent.state, store, out, resent.at);
     let replied = submit_ack_replies_to_umac(sent.state, out, sent.at);
-    let len = submit_udata_msgs_to_umac(sent.state, store, out, replied);
-    Answer::accepted(clear_udata_messages(clear_out_acks(sent.state)), len)
+    let done = submit_udata_msgs_to_umac(replied.state, store, out, replied.at);
+    Answer::accepted(done.state, done.at)
 }

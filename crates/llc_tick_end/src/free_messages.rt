@@ -16,7 +16,7 @@ use tx_receipt::TxState;
 
 // Goes through the messages: one that waits is handed down unless its SSI has one under way.
 pub(crate) fn submit_free_messages_to_umac(
-    state: State,
+    mut state: State,
     store: &[u8],
     out: &mut [u8],
     at: usize,
@@ -28,17 +28,16 @@ pub(crate) fn submit_free_messages_to_umac(
     ensures { λ r. ⌜ r .state ≡ afterSendings state ⌝ }
     ensures { λ r. ⌜ Wrote (now (out .entry)) at (sentBytesOf (bits (now (store .entry))) (sendings state .out)) (now (out .exit)) (r .at) ⌝ }
 {
-    let mut next = state;
     let mut at = at;
     // The SSIs that have a message under way, from `k` on.
     let mut ssi_blocked: [u32; 64] = [0; 64];
     let mut k: usize = 64;
     let mut i: usize = 0;
-    while i < next.n_messages {
+    while i < state.n_messages {
         let m = i;
         i += 1;
-        let ssi = next.outbound_messages[m].ssi;
-        if next.outbound_messages[m].submitted_to_umac {
+        let ssi = state.outbound_messages[m].ssi;
+        if state.outbound_messages[m].submitted_to_umac {
             k -= 1;
             ssi_blocked[k] = ssi;
             continue;
@@ -46,18 +45,18 @@ pub(crate) fn submit_free_messages_to_umac(
         if is_blocked(&ssi_blocked, k, ssi) {
             continue;
         }
-        let mut ack = next.outbound_messages[m];
+        let mut ack = state.outbound_messages[m];
         at = put_message(out, at, 1, ack, store);
         let receipt = ack.receipt as usize;
-        let place = next.receipts[receipt];
-        next.receipts[receipt] = place.marked(TxState::Pending);
+        let place = state.receipts[receipt];
+        state.receipts[receipt] = place.marked(TxState::Pending);
         ack.submitted_to_umac = true;
         ack.has_umac_done = false;
-        next.outbound_messages[m] = ack;
+        state.outbound_messages[m] = ack;
         k -= 1;
         ssi_blocked[k] = ssi;
     }
-    Passed { state: next, at }
+    Passed { state, at }
 }
 
 // Is an SSI among those from `k` on?

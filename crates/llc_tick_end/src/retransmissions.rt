@@ -94,7 +94,11 @@ fn given_up(place: ReceiptPlace) -> ReceiptPlace
 }
 
 // Goes through the messages: one that is due is handed down or leaves, and those that stay keep their order.
-pub(crate) fn submit_retransmissions_to_umac(state: State, store: &[u8], out: &mut [u8]) -> Passed
+pub(crate) fn submit_retransmissions_to_umac(
+    mut state: State,
+    store: &[u8],
+    out: &mut [u8],
+) -> Passed
     requires { ⌜ inRange state ≡ true ⌝ }
     requires { ⌜ length (now store) ≡ 32256 ⌝ }
     requires { ⌜ length (sentBytesOf (bits (now store)) (retransmissions state .out)) ≤ length (now out) ⌝ }
@@ -104,34 +108,33 @@ pub(crate) fn submit_retransmissions_to_umac(state: State, store: &[u8], out: &m
     let n = state.n_messages;
     let dltime = state.dltime;
     let t251 = state.t251;
-    let mut next = state;
     let mut i = 0;
     let mut j = 0;
     let mut at = 0;
     while i < n {
-        let held = next.outbound_messages[i];
+        let held = state.outbound_messages[i];
         let receipt = held.receipt as usize;
-        let place = next.receipts[receipt];
+        let place = state.receipts[receipt];
         let e = timed(held, place, dltime);
         i += 1;
         if !is_due(e, dltime, t251) {
-            next.outbound_messages[j] = e;
+            state.outbound_messages[j] = e;
             j += 1;
         } else if e.retransmit_count < N252_BL_MAX_TLSDU_RETRANSMITS_ACKED {
             let behind = put_message(out, at, 1, e, store);
             at = behind;
-            next.receipts[receipt] = place.marked(TxState::Pending);
-            next.outbound_messages[j] = submitted(e, e.retransmit_count + 1);
+            state.receipts[receipt] = place.marked(TxState::Pending);
+            state.outbound_messages[j] = submitted(e, e.retransmit_count + 1);
             j += 1;
         } else {
-            next.receipts[receipt] = given_up(place);
+            state.receipts[receipt] = given_up(place);
         }
     }
     let mut k = j;
     while k < n {
-        next.outbound_messages[k] = Entry::empty();
+        state.outbound_messages[k] = Entry::empty();
         k += 1;
     }
-    next.n_messages = j;
-    Passed { state: next, at }
+    state.n_messages = j;
+    Passed { state, at }
 }

@@ -3,8 +3,10 @@ use mathlib.Core.Path.{_∙_, sym, ap}
 use borrow.Author.Tests.{not-true, not-false}
 use Rattle.bits.specs.Bits.{bits}
 use Rattle.llc_steps.specs.declared.Answer.{Answer}
+use Rattle.llc_calls.specs.Ranges.{inRangeOf}
 use Rattle.llc_steps.specs.Answers.{effect, answer}
-use Rattle.llc.proofs.Ways.{lent-wrong, out-of-range, turned-down, goes-through, through-in-range, lent-tells}
+use Rattle.llc_steps.specs.Steps.{acts}
+use Rattle.llc.proofs.Ways.{lent-wrong, out-of-range, turned-down, passed, quietly, by-call, ranged, insideOf, report-ranged, release-ranged}
 use borrow.Author.Needs.{needs}
 use Rattle.llc.proofs.entry.call.Statement.{statement}
 use Rattle.llc.proofs.entry.call.Tie as tie
@@ -74,13 +76,101 @@ returns-3 c =
     (d .ensures .0) (d .ensures .1)
     (λ e. c .before .if3 .taken (q .ensures ∙ e))
 
-dispatch-requires : tie.Need-dispatch-requires
-dispatch-requires c κs =
-    let a = c .before .before .before .before .before .before .before .before .before .before .before .before .before .before .args in
-    let d = c .before .before .before .before .decode in
-    let q = c .before .before .before .question in
-    let lent = lent-tells (a .store .now) (a .out .now) (sym (c .before .before .before .before .before .before .before .before .lent-right .ensures) ∙ not-false _ (c .before .before .before .before .before .before .before .if1 .left)) in
-    (sym (c .before .before .before .before .before .before .in-range .ensures) ∙ not-false _ (c .before .before .before .before .before .if2 .left), (lent .0, (lent .1, (through-in-range (d .result) (a .state .started) (sym (q .ensures) ∙ c .before .before .if3 .left), d .ensures .1))))
+enum-known-call : tie.Need-enum-known-call
+enum-known-call c = search needs
+
+start-requires : tie.Need-start-requires
+start-requires c κs = search needs
+
+accepted-requires : tie.Need-accepted-requires
+accepted-requires c κs = search needs
+
+enum-known-call-2 : tie.Need-enum-known-call-2
+enum-known-call-2 c = search needs
+
+tick-start-requires : tie.Need-tick-start-requires
+tick-start-requires c κs = search needs
+
+accepted-requires-2 : tie.Need-accepted-requires-2
+accepted-requires-2 c κs = search needs
+
+enum-told : tie.Need-enum-told
+enum-told c = search needs
+
+tick-end-requires : tie.Need-tick-end-requires
+tick-end-requires c κs =
+    let t = c .before .before .before .before in
+    let a = t .before .before .before .before .before .before .before .before .before .before .before .before .args in
+    let p = passed (a .state) (a .store .now) (a .out .now) (a .bytes .now) (t .before .before .decode .result) (t .before .before .before .before .before .before .lent-right .ensures) (t .before .before .before .before .before .if1 .left) (t .before .before .before .before .in-range .ensures) (t .before .before .before .if2 .left) (t .before .before .decode .ensures .0) (t .before .before .decode .ensures .1) (t .before .question .ensures) (t .if3 .left) in
+    (p .state, (p .places, p .room))
+
+enum-known-call-3 : tie.Need-enum-known-call-3
+enum-known-call-3 c = search needs
+
+rx-tla-tldata-req-bl-requires : tie.Need-rx-tla-tldata-req-bl-requires
+unfolding inRangeOf
+rx-tla-tldata-req-bl-requires c κs =
+    let t = c .before .before .before .before in
+    let a = t .before .before .before .before .before .before .before .before .before .before .before .before .args in
+    let p = passed (a .state) (a .store .now) (a .out .now) (a .bytes .now) (t .before .before .decode .result) (t .before .before .before .before .before .before .lent-right .ensures) (t .before .before .before .before .before .if1 .left) (t .before .before .before .before .in-range .ensures) (t .before .before .before .if2 .left) (t .before .before .decode .ensures .0) (t .before .before .decode .ensures .1) (t .before .question .ensures) (t .if3 .left) in
+    let e = c .before .before .call3 .given .1 in
+    (p .state, (p .places, (ranged e (p .values), insideOf e (a .bytes .now) (p .inside))))
+
+enum-known-call-4 : tie.Need-enum-known-call-4
+enum-known-call-4 c = search needs
+
+rx-tla-tlunitdata-req-bl-requires : tie.Need-rx-tla-tlunitdata-req-bl-requires
+unfolding inRangeOf
+rx-tla-tlunitdata-req-bl-requires c κs =
+    let t = c .before .before .before .before in
+    let a = t .before .before .before .before .before .before .before .before .before .before .before .before .args in
+    let p = passed (a .state) (a .store .now) (a .out .now) (a .bytes .now) (t .before .before .decode .result) (t .before .before .before .before .before .before .lent-right .ensures) (t .before .before .before .before .before .if1 .left) (t .before .before .before .before .in-range .ensures) (t .before .before .before .if2 .left) (t .before .before .decode .ensures .0) (t .before .before .decode .ensures .1) (t .before .question .ensures) (t .if3 .left) in
+    let e = c .before .before .call4 .given .1 in
+    (p .state, (p .places, (ranged e (p .values), insideOf e (a .bytes .now) (p .inside))))
+
+enum-known-call-5 : tie.Need-enum-known-call-5
+enum-known-call-5 c = search needs
+
+rx-tma-unitdata-ind-requires : tie.Need-rx-tma-unitdata-ind-requires
+unfolding inRangeOf
+rx-tma-unitdata-ind-requires c κs =
+    let t = c .before .before .before .before in
+    let a = t .before .before .before .before .before .before .before .before .before .before .before .before .args in
+    let p = passed (a .state) (a .store .now) (a .out .now) (a .bytes .now) (t .before .before .decode .result) (t .before .before .before .before .before .before .lent-right .ensures) (t .before .before .before .before .before .if1 .left) (t .before .before .before .before .in-range .ensures) (t .before .before .before .if2 .left) (t .before .before .decode .ensures .0) (t .before .before .decode .ensures .1) (t .before .question .ensures) (t .if3 .left) in
+    let e = c .before .before .call5 .given .1 in
+    (p .state, (p .room, (ranged e (p .values), insideOf e (a .bytes .now) (p .inside))))
+
+enum-known-call-6 : tie.Need-enum-known-call-6
+enum-known-call-6 c = search needs
+
+rx-tma-report-ind-requires : tie.Need-rx-tma-report-ind-requires
+rx-tma-report-ind-requires c κs =
+    let t = c .before .before .before in
+    let a = t .before .before .before .before .before .before .before .before .before .before .before .before .args in
+    let p = passed (a .state) (a .store .now) (a .out .now) (a .bytes .now) (t .before .before .decode .result) (t .before .before .before .before .before .before .lent-right .ensures) (t .before .before .before .before .before .if1 .left) (t .before .before .before .before .in-range .ensures) (t .before .before .before .if2 .left) (t .before .before .decode .ensures .0) (t .before .before .decode .ensures .1) (t .before .question .ensures) (t .if3 .left) in
+    (p .state, report-ranged _ _ (ranged (c .before .call6 .given .1) (p .values)))
+
+enum-known-call-7 : tie.Need-enum-known-call-7
+enum-known-call-7 c = search needs
+
+release-requires : tie.Need-release-requires
+release-requires c κs =
+    let t = c .before .before .before in
+    let a = t .before .before .before .before .before .before .before .before .before .before .before .before .args in
+    let p = passed (a .state) (a .store .now) (a .out .now) (a .bytes .now) (t .before .before .decode .result) (t .before .before .before .before .before .before .lent-right .ensures) (t .before .before .before .before .before .if1 .left) (t .before .before .before .before .in-range .ensures) (t .before .before .before .if2 .left) (t .before .before .decode .ensures .0) (t .before .before .decode .ensures .1) (t .before .question .ensures) (t .if3 .left) in
+    (p .state, release-ranged _ (ranged (c .before .call7 .given .1) (p .values)))
+
+enum-told-2 : tie.Need-enum-told-2
+enum-told-2 c = search needs
+
+refused-requires-4 : tie.Need-refused-requires-4
+refused-requires-4 c κs = search needs
+
+enum-told-3 : tie.Need-enum-told-3
+enum-told-3 c = search needs
+
+refused-requires-5 : tie.Need-refused-requires-5
+refused-requires-5 c κs = search needs
 
 same-length-7 : tie.Need-same-length-7
 same-length-7 c = search needs
@@ -89,16 +179,135 @@ same-length-8 : tie.Need-same-length-8
 same-length-8 c = search needs
 
 returns-4 : tie.Need-returns-4
+unfolding acts
 returns-4 c =
-    let a = c .before .before .before .before .before .before .before .before .before .before .before .before .before .before .before .before .before .before .before .args in
-    let d = c .before .before .before .before .before .before .before .before .before .decode in
-    let q = c .before .before .before .before .before .before .before .before .question in
-    c .before .before .before .before .dispatch .ensures
-    ∙ goes-through (a .state) (bits (a .store .now)) (a .out .now) (a .bytes .now) (d .result)
-    (sym (c .before .before .before .before .before .before .before .before .before .before .before .before .before .lent-right .ensures) ∙ not-false _ (c .before .before .before .before .before .before .before .before .before .before .before .before .if1 .left))
-    (sym (c .before .before .before .before .before .before .before .before .before .before .before .in-range .ensures) ∙ not-false _ (c .before .before .before .before .before .before .before .before .before .before .if2 .left))
-    (d .ensures .0) (d .ensures .1)
-    (sym (q .ensures) ∙ c .before .before .before .before .before .before .before .if3 .left)
+    let t = c .before .before .before .before .before in
+    let a = t .before .before .before .before .before .before .before .before .before .before .before .before .args in
+    let p = passed (a .state) (a .store .now) (a .out .now) (a .bytes .now) (t .before .before .decode .result) (t .before .before .before .before .before .before .lent-right .ensures) (t .before .before .before .before .before .if1 .left) (t .before .before .before .before .in-range .ensures) (t .before .before .before .if2 .left) (t .before .before .decode .ensures .0) (t .before .before .decode .ensures .1) (t .before .question .ensures) (t .if3 .left) in
+    by-call (c .before .before .before .call .given .1) (a .state) (bits (a .store .now)) (a .out .now) (a .bytes .now) (quietly (a .state) (c .accepted .ensures) (c .before .start .ensures)) ∙ p .through
+
+same-length-9 : tie.Need-same-length-9
+same-length-9 c = search needs
+
+same-length-10 : tie.Need-same-length-10
+same-length-10 c = search needs
+
+returns-5 : tie.Need-returns-5
+unfolding acts
+returns-5 c =
+    let t = c .before .before .before .before .before in
+    let a = t .before .before .before .before .before .before .before .before .before .before .before .before .args in
+    let p = passed (a .state) (a .store .now) (a .out .now) (a .bytes .now) (t .before .before .decode .result) (t .before .before .before .before .before .before .lent-right .ensures) (t .before .before .before .before .before .if1 .left) (t .before .before .before .before .in-range .ensures) (t .before .before .before .if2 .left) (t .before .before .decode .ensures .0) (t .before .before .decode .ensures .1) (t .before .question .ensures) (t .if3 .left) in
+    by-call (c .before .before .before .call2 .given .1) (a .state) (bits (a .store .now)) (a .out .now) (a .bytes .now) (quietly (a .state) (c .accepted2 .ensures) (c .before .tick-start .ensures)) ∙ p .through
+
+same-length-11 : tie.Need-same-length-11
+same-length-11 c = search needs
+
+same-length-12 : tie.Need-same-length-12
+same-length-12 c = search needs
+
+returns-6 : tie.Need-returns-6
+returns-6 c =
+    let t = c .before .before .before .before .before .before .before in
+    let a = t .before .before .before .before .before .before .before .before .before .before .before .before .args in
+    let p = passed (a .state) (a .store .now) (a .out .now) (a .bytes .now) (t .before .before .decode .result) (t .before .before .before .before .before .before .lent-right .ensures) (t .before .before .before .before .before .if1 .left) (t .before .before .before .before .in-range .ensures) (t .before .before .before .if2 .left) (t .before .before .decode .ensures .0) (t .before .before .decode .ensures .1) (t .before .question .ensures) (t .if3 .left) in
+    by-call (c .before .before .before .before .before .enum-told .given .1) (a .state) (bits (a .store .now)) (a .out .now) (a .bytes .now) (c .before .before .tick-end .ensures) ∙ p .through
+
+same-length-13 : tie.Need-same-length-13
+same-length-13 c = search needs
+
+same-length-14 : tie.Need-same-length-14
+same-length-14 c = search needs
+
+returns-7 : tie.Need-returns-7
+unfolding acts
+returns-7 c =
+    let t = c .before .before .before .before .before .before .before in
+    let a = t .before .before .before .before .before .before .before .before .before .before .before .before .args in
+    let p = passed (a .state) (a .store .now) (a .out .now) (a .bytes .now) (t .before .before .decode .result) (t .before .before .before .before .before .before .lent-right .ensures) (t .before .before .before .before .before .if1 .left) (t .before .before .before .before .in-range .ensures) (t .before .before .before .if2 .left) (t .before .before .decode .ensures .0) (t .before .before .decode .ensures .1) (t .before .question .ensures) (t .if3 .left) in
+    by-call (c .before .before .before .before .before .call3 .given .1) (a .state) (bits (a .store .now)) (a .out .now) (a .bytes .now) (c .before .before .rx-tla-tldata-req-bl .ensures .each (a .out .now)) ∙ p .through
+
+same-length-15 : tie.Need-same-length-15
+same-length-15 c = search needs
+
+same-length-16 : tie.Need-same-length-16
+same-length-16 c = search needs
+
+returns-8 : tie.Need-returns-8
+unfolding acts
+returns-8 c =
+    let t = c .before .before .before .before .before .before .before in
+    let a = t .before .before .before .before .before .before .before .before .before .before .before .before .args in
+    let p = passed (a .state) (a .store .now) (a .out .now) (a .bytes .now) (t .before .before .decode .result) (t .before .before .before .before .before .before .lent-right .ensures) (t .before .before .before .before .before .if1 .left) (t .before .before .before .before .in-range .ensures) (t .before .before .before .if2 .left) (t .before .before .decode .ensures .0) (t .before .before .decode .ensures .1) (t .before .question .ensures) (t .if3 .left) in
+    by-call (c .before .before .before .before .before .call4 .given .1) (a .state) (bits (a .store .now)) (a .out .now) (a .bytes .now) (c .before .before .rx-tla-tlunitdata-req-bl .ensures .each (a .out .now)) ∙ p .through
+
+same-length-17 : tie.Need-same-length-17
+same-length-17 c = search needs
+
+same-length-18 : tie.Need-same-length-18
+same-length-18 c = search needs
+
+returns-9 : tie.Need-returns-9
+unfolding acts
+returns-9 c =
+    let t = c .before .before .before .before .before .before .before in
+    let a = t .before .before .before .before .before .before .before .before .before .before .before .before .args in
+    let p = passed (a .state) (a .store .now) (a .out .now) (a .bytes .now) (t .before .before .decode .result) (t .before .before .before .before .before .before .lent-right .ensures) (t .before .before .before .before .before .if1 .left) (t .before .before .before .before .in-range .ensures) (t .before .before .before .if2 .left) (t .before .before .decode .ensures .0) (t .before .before .decode .ensures .1) (t .before .question .ensures) (t .if3 .left) in
+    by-call (c .before .before .before .before .before .call5 .given .1) (a .state) (bits (a .store .now)) (a .out .now) (a .bytes .now) (c .before .before .rx-tma-unitdata-ind .ensures .each (bits (a .store .now))) ∙ p .through
+
+same-length-19 : tie.Need-same-length-19
+same-length-19 c = search needs
+
+same-length-20 : tie.Need-same-length-20
+same-length-20 c = search needs
+
+returns-10 : tie.Need-returns-10
+unfolding acts
+returns-10 c =
+    let t = c .before .before .before .before in
+    let a = t .before .before .before .before .before .before .before .before .before .before .before .before .args in
+    let p = passed (a .state) (a .store .now) (a .out .now) (a .bytes .now) (t .before .before .decode .result) (t .before .before .before .before .before .before .lent-right .ensures) (t .before .before .before .before .before .if1 .left) (t .before .before .before .before .in-range .ensures) (t .before .before .before .if2 .left) (t .before .before .decode .ensures .0) (t .before .before .decode .ensures .1) (t .before .question .ensures) (t .if3 .left) in
+    by-call (c .before .before .call6 .given .1) (a .state) (bits (a .store .now)) (a .out .now) (a .bytes .now) (c .rx-tma-report-ind .ensures .each (bits (a .store .now)) (a .out .now)) ∙ p .through
+
+same-length-21 : tie.Need-same-length-21
+same-length-21 c = search needs
+
+same-length-22 : tie.Need-same-length-22
+same-length-22 c = search needs
+
+returns-11 : tie.Need-returns-11
+unfolding acts
+returns-11 c =
+    let t = c .before .before .before .before in
+    let a = t .before .before .before .before .before .before .before .before .before .before .before .before .args in
+    let p = passed (a .state) (a .store .now) (a .out .now) (a .bytes .now) (t .before .before .decode .result) (t .before .before .before .before .before .before .lent-right .ensures) (t .before .before .before .before .before .if1 .left) (t .before .before .before .before .in-range .ensures) (t .before .before .before .if2 .left) (t .before .before .decode .ensures .0) (t .before .before .decode .ensures .1) (t .before .question .ensures) (t .if3 .left) in
+    by-call (c .before .before .call7 .given .1) (a .state) (bits (a .store .now)) (a .out .now) (a .bytes .now) (c .release .ensures .each (bits (a .store .now)) (a .out .now)) ∙ p .through
+
+same-length-23 : tie.Need-same-length-23
+same-length-23 c = search needs
+
+same-length-24 : tie.Need-same-length-24
+same-length-24 c = search needs
+
+returns-12 : tie.Need-returns-12
+returns-12 c =
+    let t = c .before .before .before in
+    let a = t .before .before .before .before .before .before .before .before .before .before .before .before .args in
+    let p = passed (a .state) (a .store .now) (a .out .now) (a .bytes .now) (t .before .before .decode .result) (t .before .before .before .before .before .before .lent-right .ensures) (t .before .before .before .before .before .if1 .left) (t .before .before .before .before .in-range .ensures) (t .before .before .before .if2 .left) (t .before .before .decode .ensures .0) (t .before .before .decode .ensures .1) (t .before .question .ensures) (t .if3 .left) in
+    by-call (c .before .enum-told2 .given .1) (a .state) (bits (a .store .now)) (a .out .now) (a .bytes .now) (ap (λ (r : Answer). effect r (bits (a .store .now)) (a .out .now)) (c .refused4 .ensures)) ∙ p .through
+
+same-length-25 : tie.Need-same-length-25
+same-length-25 c = search needs
+
+same-length-26 : tie.Need-same-length-26
+same-length-26 c = search needs
+
+returns-13 : tie.Need-returns-13
+returns-13 c =
+    let t = c .before .before .before in
+    let a = t .before .before .before .before .before .before .before .before .before .before .before .before .args in
+    let p = passed (a .state) (a .store .now) (a .out .now) (a .bytes .now) (t .before .before .decode .result) (t .before .before .before .before .before .before .lent-right .ensures) (t .before .before .before .before .before .if1 .left) (t .before .before .before .before .in-range .ensures) (t .before .before .before .if2 .left) (t .before .before .decode .ensures .0) (t .before .before .decode .ensures .1) (t .before .question .ensures) (t .if3 .left) in
+    by-call (c .before .enum-told3 .given .1) (a .state) (bits (a .store .now)) (a .out .now) (a .bytes .now) (ap (λ (r : Answer). effect r (bits (a .store .now)) (a .out .now)) (c .refused5 .ensures)) ∙ p .through
 
 pub call-spec : {M : Type 1} → statement M
 call-spec =
@@ -120,7 +329,55 @@ call-spec =
     same-length-5
     same-length-6
     returns-3
-    dispatch-requires
+    enum-known-call
+    start-requires
+    accepted-requires
+    enum-known-call-2
+    tick-start-requires
+    accepted-requires-2
+    enum-told
+    tick-end-requires
+    enum-known-call-3
+    rx-tla-tldata-req-bl-requires
+    enum-known-call-4
+    rx-tla-tlunitdata-req-bl-requires
+    enum-known-call-5
+    rx-tma-unitdata-ind-requires
+    enum-known-call-6
+    rx-tma-report-ind-requires
+    enum-known-call-7
+    release-requires
+    enum-told-2
+    refused-requires-4
+    enum-told-3
+    refused-requires-5
     same-length-7
     same-length-8
-    returns-4)
+    returns-4
+    same-length-9
+    same-length-10
+    returns-5
+    same-length-11
+    same-length-12
+    returns-6
+    same-length-13
+    same-length-14
+    returns-7
+    same-length-15
+    same-length-16
+    returns-8
+    same-length-17
+    same-length-18
+    returns-9
+    same-length-19
+    same-length-20
+    returns-10
+    same-length-21
+    same-length-22
+    returns-11
+    same-length-23
+    same-length-24
+    returns-12
+    same-length-25
+    same-length-26
+    returns-13)

@@ -3,10 +3,11 @@ use mathlib.Core.Path.{_≡_, _∙_, sym, ap}
 use mathlib.Core.Bool.{Bool, _&&_}
 use borrow.Author.Tests.{not-true, not-false}
 use lib.Dec.{eqb}
+use lib.ListN.{set}
 use Rattle.tx_receipt.specs.States.{number}
 use Rattle.tx_receipt.specs.declared.TxReceipt.{TxReceipt}
-use Rattle.llc_state.specs.Receipts.{placeOf}
-use Rattle.llc_state.specs.declared.State.{State}
+use Rattle.llc_state.specs.Receipts.{placeOf, withPlaces}
+use Rattle.llc_state.specs.declared.ReceiptPlace.{ReceiptPlace}
 use Rattle.llc_state.proofs.InRange.{range-tells}
 use Rattle.llc_state.proofs.Lengths.{lengths}
 use Rattle.llc_steps.specs.Answers.{answer}
@@ -65,8 +66,14 @@ returns-2 c =
     let d = c .before .before .before .before .before .before .before .before .before in
     still-waits (d .args .t1) (d .args .receipt) (d .args .how) (sym (c .before .before .waits .ensures) ∙ c .before .if2 .taken) (c .refused2 .ensures)
 
-mark-receipt-requires : tie.Need-mark-receipt-requires
-mark-receipt-requires c κs = search needs
+marked-requires : tie.Need-marked-requires
+marked-requires c κs = search needs
+
+mul-t23 : tie.Need-mul-t23
+mul-t23 c = search needs
+
+element-set-from-state : tie.Need-element-set-from-state
+element-set-from-state c = search needs
 
 accepted-requires : tie.Need-accepted-requires
 accepted-requires c κs = search needs
@@ -79,10 +86,16 @@ returns-3 c =
     (sym (pending (c .before .before .before .before .before .before .before)) ∙ not-false (tested (c .before .before .before .before .before .before .before)) (c .before .before .before .before .before .if1 .left))
     (sym (c .before .before .before .before .waits .ensures) ∙ c .before .before .before .if2 .left)
     (c .before .before .if3 .taken)
-    (c .accepted .ensures ∙ ap (λ (t : State). answer 0 t 0) (c .before .mark-receipt .ensures))
+    (c .accepted .ensures ∙ ap (λ (p : ReceiptPlace). answer 0 (withPlaces s (set (s .receipts) (d .args .receipt) p)) 0) (c .before .marked .ensures))
 
-mark-receipt-requires-2 : tie.Need-mark-receipt-requires-2
-mark-receipt-requires-2 c κs = search needs
+marked-requires-2 : tie.Need-marked-requires-2
+marked-requires-2 c κs = search needs
+
+mul-t8 : tie.Need-mul-t8
+mul-t8 c = search needs
+
+element-set-from-state-2 : tie.Need-element-set-from-state-2
+element-set-from-state-2 c = search needs
 
 accepted-requires-2 : tie.Need-accepted-requires-2
 accepted-requires-2 c κs = search needs
@@ -95,7 +108,7 @@ returns-4 c =
     (sym (pending (c .before .before .before .before .before .before .before)) ∙ not-false (tested (c .before .before .before .before .before .before .before)) (c .before .before .before .before .before .if1 .left))
     (sym (c .before .before .before .before .waits .ensures) ∙ c .before .before .before .if2 .left)
     (c .before .before .if3 .left)
-    (c .accepted2 .ensures ∙ ap (λ (t : State). answer 0 t 0) (c .before .mark-receipt2 .ensures))
+    (c .accepted2 .ensures ∙ ap (λ (p : ReceiptPlace). answer 0 (withPlaces s (set (s .receipts) (d .args .receipt) p)) 0) (c .before .marked2 .ensures))
 
 pub rx-tma-report-ind-spec : {M : Type 1} → statement M
 rx-tma-report-ind-spec =
@@ -111,9 +124,13 @@ rx-tma-report-ind-spec =
     waits-requires
     refused-requires-2
     returns-2
-    mark-receipt-requires
+    marked-requires
+    mul-t23
+    element-set-from-state
     accepted-requires
     returns-3
-    mark-receipt-requires-2
+    marked-requires-2
+    mul-t8
+    element-set-from-state-2
     accepted-requires-2
     returns-4)

@@ -1,25 +1,24 @@
 use Prim.Native.Nat.{_-_}
 use borrow.Author.Needs.{needs}
-use Rattle.llc_state.proofs.Lengths.{lengths}
 use Rattle.llc_steps.specs.Queues.{ackOn}
 use Rattle.llc_queues.proofs.Searching.{Searching, begins, goes-on, found, ends}
 use Rattle.llc_queues.proofs.searches.out_ack_if_any.Statement.{statement}
 use Rattle.llc_queues.proofs.searches.out_ack_if_any.Tie as tie
 
 abbrev Inv-loop : tie.InvT-loop
-Inv-loop ssi carrier-num state i₀ i = Searching (ackOn ssi carrier-num) 64 (state .«n_acks») (state .«scheduled_out_acks») i
+Inv-loop n ssi carrier-num acks i₀ i = Searching (ackOn ssi carrier-num) 64 n acks i
 
 abbrev μ-loop : tie.MeasureT-loop
-μ-loop ssi carrier-num state i₀ i = state .«n_acks» - i
+μ-loop n ssi carrier-num acks i₀ i = n - i
 
 loop-holds : tie.Need-loop-holds Inv-loop μ-loop
-loop-holds c = begins _ (c .pre) (lengths (c .args .t1) (c .good .0) .acks)
+loop-holds c = begins _ (c .pre) (c .good .0 .1 .0 .1)
 
 mul-ack : tie.Need-mul-ack Inv-loop μ-loop
 mul-ack c = search needs
 
-element-copy-out-ack : tie.Need-element-copy-out-ack Inv-loop μ-loop
-element-copy-out-ack c = search needs
+array-copy-out-ack : tie.Need-array-copy-out-ack Inv-loop μ-loop
+array-copy-out-ack c = search needs
 
 returns : tie.Need-returns Inv-loop μ-loop
 returns c =
@@ -48,7 +47,7 @@ out-ack-if-any-spec =
     μ-loop
     loop-holds
     mul-ack
-    element-copy-out-ack
+    array-copy-out-ack
     returns
     add-i
     loop-less

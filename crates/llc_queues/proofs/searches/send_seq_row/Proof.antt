@@ -1,26 +1,25 @@
 use Prim.Native.Nat.{_-_}
 use borrow.Author.Tests.{eq-eqb, ne-eqb}
 use borrow.Author.Needs.{needs}
-use Rattle.llc_state.proofs.Lengths.{lengths}
 use Rattle.llc_steps.specs.Queues.{rowOf}
 use Rattle.llc_queues.proofs.Searching.{Searching, begins, goes-on, found, ends}
 use Rattle.llc_queues.proofs.searches.send_seq_row.Statement.{statement}
 use Rattle.llc_queues.proofs.searches.send_seq_row.Tie as tie
 
 abbrev Inv-loop : tie.InvT-loop
-Inv-loop ssi state i₀ i = Searching (rowOf ssi) 256 (state .«n_rows») (state .«link_send_seq») i
+Inv-loop n ssi rows i₀ i = Searching (rowOf ssi) 256 n rows i
 
 abbrev μ-loop : tie.MeasureT-loop
-μ-loop ssi state i₀ i = state .«n_rows» - i
+μ-loop n ssi rows i₀ i = n - i
 
 loop-holds : tie.Need-loop-holds Inv-loop μ-loop
-loop-holds c = begins _ (c .pre) (lengths (c .args .t1) (c .good .0) .rows)
+loop-holds c = begins _ (c .pre) (c .good .0 .1 .0 .1)
 
 mul-row : tie.Need-mul-row Inv-loop μ-loop
 mul-row c = search needs
 
-element-copy-out-row : tie.Need-element-copy-out-row Inv-loop μ-loop
-element-copy-out-row c = search needs
+array-copy-out-row : tie.Need-array-copy-out-row Inv-loop μ-loop
+array-copy-out-row c = search needs
 
 returns : tie.Need-returns Inv-loop μ-loop
 returns c =
@@ -49,7 +48,7 @@ send-seq-row-spec =
     μ-loop
     loop-holds
     mul-row
-    element-copy-out-row
+    array-copy-out-row
     returns
     add-i
     loop-less

@@ -7,10 +7,10 @@ use Rattle.llc_queues.proofs.updates.push_front_expected_ack.Statement.
 use Rattle.llc_queues.proofs.updates.push_front_expected_ack.Tie as tie
 
 abbrev Inv-loop : tie.InvT-loop
-Inv-loop i e next₀ j₀ next j = Fronting messages next₀ i next j
+Inv-loop i state₀ e j₀ state j = Fronting messages state₀ i state j
 
 abbrev μ-loop : tie.MeasureT-loop
-μ-loop i e next₀ j₀ next j = j
+μ-loop i state₀ e j₀ state j = j
 
 mul-e : tie.Need-mul-e Inv-loop μ-loop
 mul-e c = search needs
@@ -24,20 +24,20 @@ loop-holds c =
     let len = lengths s (c .before .good .0) in
     fronting-begins messages s _ (omega arith) (omega (arith, len .messages))
 
-sub-next : tie.Need-sub-next Inv-loop μ-loop
-sub-next c = search needs
+sub-state : tie.Need-sub-state Inv-loop μ-loop
+sub-state c = search needs
 
-mul-next : tie.Need-mul-next Inv-loop μ-loop
-mul-next c = search needs
+mul-state : tie.Need-mul-state Inv-loop μ-loop
+mul-state c = search needs
 
-element-copy-out-next : tie.Need-element-copy-out-next Inv-loop μ-loop
-element-copy-out-next c = search needs
+element-copy-out-state : tie.Need-element-copy-out-state Inv-loop μ-loop
+element-copy-out-state c = search needs
 
-mul-t18 : tie.Need-mul-t18 Inv-loop μ-loop
-mul-t18 c = search needs
+mul-t16 : tie.Need-mul-t16 Inv-loop μ-loop
+mul-t16 c = search needs
 
-element-set-from-next : tie.Need-element-set-from-next Inv-loop μ-loop
-element-set-from-next c = search needs
+element-set-from-state : tie.Need-element-set-from-state Inv-loop μ-loop
+element-set-from-state c = search needs
 
 sub-j : tie.Need-sub-j Inv-loop μ-loop
 sub-j c = search needs
@@ -63,11 +63,11 @@ push-front-expected-ack-spec =
     mul-e
     element-copy-out-e
     loop-holds
-    sub-next
-    mul-next
-    element-copy-out-next
-    mul-t18
-    element-set-from-next
+    sub-state
+    mul-state
+    element-copy-out-state
+    mul-t16
+    element-set-from-state
     sub-j
     loop-less
     loop-again

@@ -11,14 +11,14 @@ mul-e c = search needs
 element-set-from-e : tie.Need-element-set-from-e
 element-set-from-e c = search needs
 
-add-next : tie.Need-add-next
-add-next c = search needs
+add-state : tie.Need-add-state
+add-state c = search needs
 
 returns : tie.Need-returns
 returns c =
-    let s = c .args .state in
+    let s = c .args .t1 in
     let len = lengths s (c .good .0) in
     puts-last udata s _ (omega (arith, len .udata, c .pre))
 
 pub push-udata-message-spec : {M : Type 1} → statement M
-push-udata-message-spec = tie.close (tie.spec mul-e element-set-from-e add-next returns)
+push-udata-message-spec = tie.close (tie.spec mul-e element-set-from-e add-state returns)

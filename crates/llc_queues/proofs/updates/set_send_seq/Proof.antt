@@ -13,18 +13,18 @@ element-set-from-row c = search needs
 
 returns : tie.Need-returns
 returns c =
-    let s = c .before .args .state in
+    let s = c .before .args .t1 in
     let len = lengths s (c .before .good .0) in
     puts-in rows s _ _ (c .if1 .taken) (omega (arith, len .rows))
 
-add-next : tie.Need-add-next
-add-next c = search needs
+add-state : tie.Need-add-state
+add-state c = search needs
 
 returns-2 : tie.Need-returns-2
 returns-2 c =
-    let s = c .before .args .state in
+    let s = c .before .args .t1 in
     let len = lengths s (c .before .good .0) in
     puts-behind rows s _ _ (omega arith) (omega (arith, len .rows))
 
 pub set-send-seq-spec : {M : Type 1} → statement M
-set-send-seq-spec = tie.close (tie.spec mul-row element-set-from-row returns add-next returns-2)
+set-send-seq-spec = tie.close (tie.spec mul-row element-set-from-row returns add-state returns-2)

@@ -8,34 +8,34 @@ use Rattle.llc_queues.proofs.updates.take_expected_ack.Statement.{state
 use Rattle.llc_queues.proofs.updates.take_expected_ack.Tie as tie
 
 abbrev Inv-loop : tie.InvT-loop
-Inv-loop i n next₀ j₀ next j = Taking messages next₀ i next j
+Inv-loop i state₀ n j₀ state j = Taking messages state₀ i state j
 
 abbrev μ-loop : tie.MeasureT-loop
-μ-loop i n next₀ j₀ next j = n - j
+μ-loop i state₀ n j₀ state j = n - j
 
 loop-holds : tie.Need-loop-holds Inv-loop μ-loop
 loop-holds c =
-    let s = c .args .state in
+    let s = c .args .t1 in
     let len = lengths s (c .good .0) in
     taking-begins messages s _ (omega arith) (omega (arith, len .messages))
 
 add-loop : tie.Need-add-loop Inv-loop μ-loop
 add-loop c = search needs
 
-add-next : tie.Need-add-next Inv-loop μ-loop
-add-next c = search needs
+add-state : tie.Need-add-state Inv-loop μ-loop
+add-state c = search needs
 
-mul-next : tie.Need-mul-next Inv-loop μ-loop
-mul-next c = search needs
+mul-state : tie.Need-mul-state Inv-loop μ-loop
+mul-state c = search needs
 
-element-copy-out-next : tie.Need-element-copy-out-next Inv-loop μ-loop
-element-copy-out-next c = search needs
+element-copy-out-state : tie.Need-element-copy-out-state Inv-loop μ-loop
+element-copy-out-state c = search needs
 
 mul-t12 : tie.Need-mul-t12 Inv-loop μ-loop
 mul-t12 c = search needs
 
-element-set-from-next : tie.Need-element-set-from-next Inv-loop μ-loop
-element-set-from-next c = search needs
+element-set-from-state : tie.Need-element-set-from-state Inv-loop μ-loop
+element-set-from-state c = search needs
 
 add-j : tie.Need-add-j Inv-loop μ-loop
 add-j c = search needs
@@ -55,11 +55,11 @@ sub-t16 c = search needs
 mul-t17 : tie.Need-mul-t17 Inv-loop μ-loop
 mul-t17 c = search needs
 
-element-set-from-next-2 : tie.Need-element-set-from-next-2 Inv-loop μ-loop
-element-set-from-next-2 c = search needs
+element-set-from-state-2 : tie.Need-element-set-from-state-2 Inv-loop μ-loop
+element-set-from-state-2 c = search needs
 
-sub-next : tie.Need-sub-next Inv-loop μ-loop
-sub-next c = search needs
+sub-state : tie.Need-sub-state Inv-loop μ-loop
+sub-state c = search needs
 
 returns : tie.Need-returns Inv-loop μ-loop
 returns c = taking-ends messages _ _ (c .before .before .loop .inv) (c .empty .ensures) (c .before .loop-test .left)
@@ -72,17 +72,17 @@ take-expected-ack-spec =
     μ-loop
     loop-holds
     add-loop
-    add-next
-    mul-next
-    element-copy-out-next
+    add-state
+    mul-state
+    element-copy-out-state
     mul-t12
-    element-set-from-next
+    element-set-from-state
     add-j
     loop-less
     loop-again
     empty-requires
     sub-t16
     mul-t17
-    element-set-from-next-2
-    sub-next
+    element-set-from-state-2
+    sub-state
     returns)

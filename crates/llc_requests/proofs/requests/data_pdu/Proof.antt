@@ -8,8 +8,8 @@ use Rattle.llc_requests.proofs.requests.data_pdu.Tie as tie
 returns : tie.Need-returns
 returns c = simp (le-ltb _ _ (c .if1 .taken))
 
-mul-t6 : tie.Need-mul-t6
-mul-t6 c = search needs
+mul-t8 : tie.Need-mul-t8
+mul-t8 c = search needs
 
 element-copy-out-t7 : tie.Need-element-copy-out-t7
 element-copy-out-t7 c = search needs
@@ -18,8 +18,8 @@ returns-2 : tie.Need-returns-2
 returns-2 c =
     simp (
       lt-ltb _ _ (c .if1 .left),
-      getD-take (c .before .args .t1 .«n_acks») (c .before .args .t1 .«scheduled_out_acks») (c .before .args .ack) noAck (c .if1 .left),
+      getD-take (c .before .args .n) (c .before .args .t1) (c .before .args .ack) noAck (c .if1 .left),
     )
 
 pub data-pdu-spec : {M : Type 1} → statement M
-data-pdu-spec = tie.close (tie.spec returns mul-t6 element-copy-out-t7 returns-2)
+data-pdu-spec = tie.close (tie.spec returns mul-t8 element-copy-out-t7 returns-2)

@@ -16,25 +16,25 @@ preferred-carrier-requires : tie.Need-preferred-carrier-requires
 preferred-carrier-requires c κs = search needs
 
 out-ack-if-any-requires : tie.Need-out-ack-if-any-requires
-out-ack-if-any-requires c κs = let s = c .before .before .before in range-tells (s .args .state) (s .pre .0) .head .acks
+out-ack-if-any-requires c κs = let s = c .before .before .before .before .before in range-tells (s .args .state) (s .pre .0) .head .acks
 
 send-seq-requires : tie.Need-send-seq-requires
-send-seq-requires c κs = let s = c .before .before .before .before in range-tells (s .args .state) (s .pre .0) .head .rows
+send-seq-requires c κs = let s = c .before .before .before .before .before .before in range-tells (s .args .state) (s .pre .0) .head .rows
 
 data-pdu-requires : tie.Need-data-pdu-requires
 data-pdu-requires c κs =
-    let s = c .before .before .before .before .before .before in
+    let s = c .before .before .before .before .before .before .before .before in
     range-tells (s .args .state) (s .pre .0) .head .acks
 
 free-place-requires : tie.Need-free-place-requires
 free-place-requires c κs =
-    let s = c .before .before .before .before .before .before .before in
+    let s = c .before .before .before .before .before .before .before .before .before in
     let h = range-tells (s .args .state) (s .pre .0) .head in
     (h .messages, h .udata)
 
 put-frame-requires : tie.Need-put-frame-requires
 put-frame-requires c κs =
-    let s = c .before .before .before .before .before .before .before .before .before in
+    let s = c .before .before .before .before .before .before .before .before .before .before .before in
     let h = range-tells (s .args .state) (s .pre .0) .head in
     let a = allowed (s .args .q) (s .pre .1 .1 .0) in
     let below = place-below (s .args .state) (omega (arith, h .udata, s .pre .1 .1 .1 .1 .1 .1)) in
@@ -42,13 +42,13 @@ put-frame-requires c κs =
 
 entry-of-requires : tie.Need-entry-of-requires
 entry-of-requires c κs =
-    let s = c .before .before .before .before .before .before .before .before .before .before .before .before in
+    let s = c .before .before .before .before .before .before .before .before .before .before .before .before .before .before in
     (allowed (s .args .q) (s .pre .1 .1 .0) .block, s .pre .1 .1 .1 .0)
 
 take-out-ack-requires : tie.Need-take-out-ack-requires
 take-out-ack-requires c κs =
     let ack = c .before .before .before .before .before .before .before .before .before in
-    let carrier = ack .before in
+    let carrier = ack .before .before .before in
     let s = carrier .before .before .before in
     let p = ackOn (s .args .q .ssi) (carrier .preferred-carrier .result) in
     let most = position-within p (s .args .state .«n_acks») (s .args .state .«scheduled_out_acks») in
@@ -56,24 +56,24 @@ take-out-ack-requires c κs =
 
 push-message-requires : tie.Need-push-message-requires
 push-message-requires c κs =
-    let s = c .before .before .before .before .before .before .before .before .before .before .before .before .before .before in
+    let s = c .before .before .before .before .before .before .before .before .before .before .before .before .before .before .before .before in
     omega (arith, ap (λ (t : State). t .«n_messages») (c .take-out-ack .ensures), s .pre .1 .1 .1 .1 .1 .1)
 
 cast-take-receipt : tie.Need-cast-take-receipt
 cast-take-receipt c =
-    let s = c .before .before .before .before .before .before .before .before .before .before .before .before .before .before .before .before in
+    let s = c .before .before .before .before .before .before .before .before .before .before .before .before .before .before .before .before .before .before in
     omega (arith, allowed (s .args .q) (s .pre .1 .1 .0) .receipt)
 
 take-receipt-requires : tie.Need-take-receipt-requires
 take-receipt-requires c κs =
-    let s = c .before .before .before .before .before .before .before .before .before .before .before .before .before .before .before .before in
+    let s = c .before .before .before .before .before .before .before .before .before .before .before .before .before .before .before .before .before .before in
     allowed (s .args .q) (s .pre .1 .1 .0) .receipt
 
 set-send-seq-requires : tie.Need-set-send-seq-requires
 set-send-seq-requires c κs =
     let push = c .before .before in
     let taken = push .before in
-    let s = taken .before .before .before .before .before .before .before .before .before .before .before .before .before .before in
+    let s = taken .before .before .before .before .before .before .before .before .before .before .before .before .before .before .before .before in
     let rows : State → ℕ = λ (t : State). t .«n_rows» in
     let same = ap rows (c .take-receipt .ensures) ∙ ap rows (push .push-message .ensures) ∙ ap rows (taken .take-out-ack .ensures) in
     let few = range-tells (s .args .state) (s .pre .0) .head .rows in
@@ -97,7 +97,7 @@ returns c =
     let pdu = place .before in
     let seq = pdu .before .before in
     let ack = seq .before in
-    let carrier = ack .before in
+    let carrier = ack .before .before .before in
     let s = carrier .before .before .before in
     put-acknowledged
     (requestOf (s .args .q) (s .args .bytes .now))

@@ -33,7 +33,7 @@ returns c =
 
 send-seq-row-requires : tie.Need-send-seq-row-requires
 send-seq-row-requires c κs =
-    let s = c .before .before .before .before .before .before .before in
+    let s = c .before .before .before .before .before .before .before .before in
     range-tells (s .args .t1) (s .pre .0) .head .rows
 
 refused-requires-2 : tie.Need-refused-requires-2
@@ -43,7 +43,7 @@ returns-2 : tie.Need-returns-2
 unfolding requestOf
 returns-2 c =
     let row = c .before .before in
-    let path = row .before in
+    let path = row .before .before in
     let free = path .before .before .before in
     let s = free .before .before .before .before in
     let r = requestOf (s .args .q) (s .args .bytes .now) in
@@ -60,7 +60,7 @@ returns-3 : tie.Need-returns-3
 unfolding requestOf
 returns-3 c =
     let row = c .before .before .before in
-    let path = row .before in
+    let path = row .before .before in
     let free = path .before .before .before in
     let s = free .before .before .before .before in
     let r = requestOf (s .args .q) (s .args .bytes .now) in
@@ -75,7 +75,7 @@ put-acknowledged-requires c κs =
     let room = c .before in
     let below = room .before in
     let row = below .before in
-    let s = row .before .before .before .before .before .before .before .before in
+    let s = row .before .before .before .before .before .before .before .before .before in
     (s .pre .0, (s .pre .1 .0, (s .pre .1 .1 .0, (s .pre .1 .1 .1, (row .send-seq-row .ensures, (below .if3 .left, room .if4 .left))))))
 
 same-length : tie.Need-same-length
@@ -88,7 +88,7 @@ returns-4 c =
     let room = put .before .before in
     let below = room .before in
     let row = below .before in
-    let path = row .before in
+    let path = row .before .before in
     let free = path .before .before .before in
     let s = free .before .before .before .before in
     let r = requestOf (s .args .q) (s .args .bytes .now) in
@@ -117,22 +117,22 @@ preferred-carrier-requires c κs = search needs
 
 out-ack-if-any-requires : tie.Need-out-ack-if-any-requires
 out-ack-if-any-requires c κs =
-    let s = c .before .before .before .before .before .before .before .before .before .before in
+    let s = c .before .before .before .before .before .before .before .before .before .before .before in
     range-tells (s .args .t1) (s .pre .0) .head .acks
 
-mul-t36 : tie.Need-mul-t36
-mul-t36 c =
-    let s = c .before .before .before .before .before .before .before .before .before .before .before .before .before in
+mul-t37 : tie.Need-mul-t37
+mul-t37 c =
+    let s = c .before .before .before .before .before .before .before .before .before .before .before .before .before .before in
     omega (arith, range-tells (s .args .t1) (s .pre .0) .head .acks, c .before .if7 .taken)
 
-element-copy-out-t39 : tie.Need-element-copy-out-t39
-element-copy-out-t39 c =
-    let s = c .before .before .before .before .before .before .before .before .before .before .before .before .before in
+element-copy-out-t40 : tie.Need-element-copy-out-t40
+element-copy-out-t40 c =
+    let s = c .before .before .before .before .before .before .before .before .before .before .before .before .before .before in
     omega (arith, range-tells (s .args .t1) (s .pre .0) .head .acks, c .before .if7 .taken)
 
 put-unacknowledged-requires : tie.Need-put-unacknowledged-requires
 put-unacknowledged-requires c κs =
-    let room = c .before .before .before .before .before .before in
+    let room = c .before .before .before .before .before .before .before in
     let s = room .before .before .before .before .before .before .before .before in
     (s .pre .0, (s .pre .1 .0, (s .pre .1 .1 .0, (s .pre .1 .1 .1, (room .if5 .left, omega (arith, c .before .before .if7 .taken))))))
 
@@ -145,7 +145,7 @@ returns-6 c =
     let put = c .before .before in
     let due = put .before .before .before in
     let ack = due .before in
-    let carrier = ack .before in
+    let carrier = ack .before .before in
     let steal = carrier .before in
     let room = steal .before in
     let path = room .before in
@@ -182,7 +182,7 @@ returns-7 c =
     (⊎-elim
     (λ w.
     data-undue r (s .args .t1) b (free .if1 .left) (path .if2 .left) (room .if5 .left)
-    (w .0 .taken) (w .1 .ensures) (w .2 .ensures) (w .3 .left))
+    (w .0 .taken) (w .1 .ensures) (w .3 .ensures) (w .4 .left))
     (λ w. data-plain r (s .args .t1) b (free .if1 .left) (path .if2 .left) (room .if5 .left) (w .left))
     (met .if6 .came))
     (put .put-unacknowledged2 .ensures)
@@ -208,8 +208,8 @@ rx-tla-tldata-req-bl-spec =
     returns-5
     preferred-carrier-requires
     out-ack-if-any-requires
-    mul-t36
-    element-copy-out-t39
+    mul-t37
+    element-copy-out-t40
     put-unacknowledged-requires
     same-length-2
     returns-6

@@ -10,14 +10,14 @@ use Rattle.llc_tick_end.proofs.free_messages.submit_free_messages_to_um
 use Rattle.llc_tick_end.proofs.free_messages.submit_free_messages_to_umac.Tie as tie
 
 abbrev Inv-loop : tie.InvT-loop
-Inv-loop store out₀ at next₀ at₀ ssi-blocked₀ k₀ i₀ out next at' ssi-blocked k i =
-    Passing next₀ (bits store) out₀ at out next at' ssi-blocked k i
+Inv-loop store out₀ at state₀ at₀ ssi-blocked₀ k₀ i₀ out state at' ssi-blocked k i =
+    Passing state₀ (bits store) out₀ at out state at' ssi-blocked k i
 
 abbrev μ-loop : tie.MeasureT-loop
-μ-loop store out₀ at next₀ at₀ ssi-blocked₀ k₀ i₀ out next at' ssi-blocked k i = next .«n_messages» - i
+μ-loop store out₀ at state₀ at₀ ssi-blocked₀ k₀ i₀ out state at' ssi-blocked k i = state .«n_messages» - i
 
 loop-holds : tie.Need-loop-holds Inv-loop μ-loop
-loop-holds c = let b = c .before .before in begins (b .pre .0) (lengths (b .args .state) (b .good .0) .messages)
+loop-holds c = let b = c .before .before in begins (b .pre .0) (lengths (b .args .t1) (b .good .0) .messages)
 
 add-i : tie.Need-add-i Inv-loop μ-loop
 add-i c = search needs
@@ -97,8 +97,8 @@ marked-requires c κs = search needs
 mul-t15 : tie.Need-mul-t15 Inv-loop μ-loop
 mul-t15 c = search needs
 
-element-set-from-next : tie.Need-element-set-from-next Inv-loop μ-loop
-element-set-from-next c =
+element-set-from-state : tie.Need-element-set-from-state Inv-loop μ-loop
+element-set-from-state c =
     let b = c .before .before .before .before .before .before .before .before .before .before .before .before in
     in-range (b .before .loop .inv) _ (b .loop-test .taken) (b .before .before .before .before .pre .1 .0) .receipt
 
@@ -162,7 +162,7 @@ submit-free-messages-to-umac-spec =
     element-copy-out-place
     marked-requires
     mul-t15
-    element-set-from-next
+    element-set-from-state
     mul-ack-2
     element-set-from-ack
     sub-k-2

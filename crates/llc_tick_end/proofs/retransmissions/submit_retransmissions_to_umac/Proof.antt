@@ -14,21 +14,21 @@ use Rattle.llc_tick_end.proofs.retransmissions.submit_retransmissions_t
 use Rattle.llc_tick_end.proofs.retransmissions.submit_retransmissions_to_umac.Tie as tie
 
 abbrev Inv-loop : tie.InvT-loop
-Inv-loop store out₀ n dltime t251 next₀ i₀ j₀ at₀ out next i j at = Passing next₀ store out₀ next i j out at
+Inv-loop store out₀ state₀ n dltime t251 i₀ j₀ at₀ out state i j at = Passing state₀ store out₀ state i j out at
 
 abbrev μ-loop : tie.MeasureT-loop
-μ-loop store out₀ n dltime t251 next₀ i₀ j₀ at₀ out next i j at = n - i
+μ-loop store out₀ state₀ n dltime t251 i₀ j₀ at₀ out state i j at = n - i
 
 abbrev Inv-loop2 : tie.InvT-loop2
-Inv-loop2 store out n t251 next₀ i j at k₀ next k = Clearing next₀ n j k next
+Inv-loop2 store out state₀ n t251 i j at k₀ state k = Clearing state₀ n j k state
 
 abbrev μ-loop2 : tie.MeasureT-loop2
-μ-loop2 store out n t251 next₀ i j at k₀ next k = n - k
+μ-loop2 store out state₀ n t251 i j at k₀ state k = n - k
 
 loop-holds : tie.Need-loop-holds Inv-loop μ-loop Inv-loop2 μ-loop2
 loop-holds c =
     let e = c .before .before .before in
-    passes (e .args .state) (e .args .store .now) (e .args .out .now) (e .pre .0) (lengths (e .args .state) (e .good .0))
+    passes (e .args .t1) (e .args .store .now) (e .args .out .now) (e .pre .0) (lengths (e .args .t1) (e .good .0))
 
 mul-held : tie.Need-mul-held Inv-loop μ-loop Inv-loop2 μ-loop2
 mul-held c = search needs
@@ -94,8 +94,8 @@ marked-requires c κs = search needs
 mul-t34 : tie.Need-mul-t34 Inv-loop μ-loop Inv-loop2 μ-loop2
 mul-t34 c = omega (arith, c .before .before .before .before .before .before .before .before .before .before .before .struct-known .given)
 
-element-set-from-next : tie.Need-element-set-from-next Inv-loop μ-loop Inv-loop2 μ-loop2
-element-set-from-next c =
+element-set-from-state : tie.Need-element-set-from-state Inv-loop μ-loop Inv-loop2 μ-loop2
+element-set-from-state c =
     let l = c .before .before .before .before .before .before .before .before .before .before .before .before .before in
     held-tells (l .before .loop .inv) (l .loop-test .taken) _ .receipt
 
@@ -111,8 +111,8 @@ mul-t34-2 c =
     let inv = l .before .loop .inv in
     omega (arith, inv .compacting .low, inv .count, l .loop-test .taken)
 
-element-set-from-next-2 : tie.Need-element-set-from-next-2 Inv-loop μ-loop Inv-loop2 μ-loop2
-element-set-from-next-2 c =
+element-set-from-state-2 : tie.Need-element-set-from-state-2 Inv-loop μ-loop Inv-loop2 μ-loop2
+element-set-from-state-2 c =
     let l = c .before .before .before .before .before .before .before .before .before .before .before .before .before .before .before in
     let inv = l .before .loop .inv in
     omega (arith, inv .compacting .low, inv .count, l .loop-test .taken)
@@ -146,8 +146,8 @@ given-up-requires c κs = search needs
 mul-t42 : tie.Need-mul-t42 Inv-loop μ-loop Inv-loop2 μ-loop2
 mul-t42 c = omega (arith, c .before .before .before .before .before .before .before .struct-known .given)
 
-element-set-from-next-3 : tie.Need-element-set-from-next-3 Inv-loop μ-loop Inv-loop2 μ-loop2
-element-set-from-next-3 c =
+element-set-from-state-3 : tie.Need-element-set-from-state-3 Inv-loop μ-loop Inv-loop2 μ-loop2
+element-set-from-state-3 c =
     let l = c .before .before .before .before .before .before .before .before .before in
     held-tells (l .before .loop .inv) (l .loop-test .taken) _ .receipt
 
@@ -170,8 +170,8 @@ empty-requires c κs = search needs
 mul-t47 : tie.Need-mul-t47 Inv-loop μ-loop Inv-loop2 μ-loop2
 mul-t47 c = search needs
 
-element-set-from-next-4 : tie.Need-element-set-from-next-4 Inv-loop μ-loop Inv-loop2 μ-loop2
-element-set-from-next-4 c = search needs
+element-set-from-state-4 : tie.Need-element-set-from-state-4 Inv-loop μ-loop Inv-loop2 μ-loop2
+element-set-from-state-4 c = search needs
 
 add-k : tie.Need-add-k Inv-loop μ-loop Inv-loop2 μ-loop2
 add-k c = search needs
@@ -216,23 +216,23 @@ submit-retransmissions-to-umac-spec =
     put-message-requires
     marked-requires
     mul-t34
-    element-set-from-next
+    element-set-from-state
     add-submitted
     submitted-requires
     mul-t34-2
-    element-set-from-next-2
+    element-set-from-state-2
     add-j-2
     loop-less-2
     loop-again-2
     given-up-requires
     mul-t42
-    element-set-from-next-3
+    element-set-from-state-3
     loop-less-3
     loop-again-3
     loop2-holds
     empty-requires
     mul-t47
-    element-set-from-next-4
+    element-set-from-state-4
     add-k
     loop2-less
     loop2-again

@@ -1,5 +1,6 @@
 use Prim.Native.Nat.{ℕ, _-_}
 use native.Mathlib.Omega.{arith}
+use mathlib.Core.Path.{_∙_, ap}
 use mathlib.Core.List.{List}
 use Rattle.bits.specs.Bits.{bits}
 use Rattle.llc_rule.specs.Records.{Record, unacknowledged, bytes}
@@ -9,7 +10,8 @@ use Rattle.llc_state.specs.declared.Entry.{Entry}
 use Rattle.llc_state.proofs.Lengths.{lengths}
 use Rattle.llc_tick_end.specs.Passes.{udataBytesOf}
 use Rattle.llc_tick_end.proofs.Entries.{used-at, entry-tells}
-use Rattle.llc_tick_end.proofs.Handing.{Handing, hands, next-room, hands-on, handed}
+use Rattle.llc_queues.proofs.Arrays.{udata}
+use Rattle.llc_tick_end.proofs.Draining.{Draining, reads, drains, drain-room, drains-on, all-handed, all-drained}
 use borrow.Author.Needs.{needs}
 use Rattle.llc_tick_end.proofs.udata.submit_udata_msgs_to_umac.Statement.{statement}
 use Rattle.llc_tick_end.proofs.udata.submit_udata_msgs_to_umac.Tie as tie
@@ -18,17 +20,17 @@ abbrev handedDown : List ℕ → Entry → Record
 handedDown store e = unacknowledged (sentIn (bits store) e)
 
 abbrev Inv-loop : tie.InvT-loop
-Inv-loop store out₀ at state p₀ i₀ out p i = Handing (handedDown store) (state .«n_udata») (state .«outbound_udata_messages») out₀ at i out p
+Inv-loop store out₀ at state₀ n p₀ i₀ out state p i = Draining udata (handedDown store) state₀ out₀ at out state p i
 
 abbrev μ-loop : tie.MeasureT-loop
-μ-loop store out₀ at state p₀ i₀ out p i = state .«n_udata» - i
+μ-loop store out₀ at state₀ n p₀ i₀ out state p i = n - i
 
 loop-holds : tie.Need-loop-holds Inv-loop μ-loop
 unfolding udataBytesOf
 loop-holds c =
     let s = c .before .before in
     let a = s .args in
-    hands (handedDown (a .store .now)) (a .t1 .«n_udata») (a .t1 .«outbound_udata_messages») (a .out .now) (a .at)
+    drains udata (handedDown (a .store .now)) (a .t1) (a .out .now) (a .at)
     (omega (arith, s .pre, lengths (a .t1) (s .good .0) .udata)) (omega (arith, s .pre))
 
 mul-put-message : tie.Need-mul-put-message Inv-loop μ-loop
@@ -43,10 +45,19 @@ put-message-requires c κs =
     let s = c .before .before .before .before .before .before in
     let a = s .args .t1 in
     let i = c .before .before .before .loop in
-    let passes =
-    used-at entryInRange (a .«n_udata») (a .«outbound_udata_messages») (i .i) _ (s .pre .1 .0) (omega arith) (i .inv .high) in
-    let told = entry-tells _ passes in
-    (s .pre .1 .1 .0, (told .block, (told .place, (told .len, next-room (i .inv) _ (omega arith)))))
+    let less = c .before .before .loop-test .taken in
+    let passes = used-at entryInRange (a .«n_udata») (a .«outbound_udata_messages») (i .i) _ (s .pre .1 .0) less (i .inv .handing .high) in
+    let told = entry-tells _ (ap entryInRange (reads (i .inv) _) ∙ passes) in
+    (s .pre .1 .1 .0, (told .block, (told .place, (told .len, drain-room (i .inv) _ less))))
+
+empty-requires : tie.Need-empty-requires Inv-loop μ-loop
+empty-requires c κs = search needs
+
+mul-t12 : tie.Need-mul-t12 Inv-loop μ-loop
+mul-t12 c = search needs
+
+element-set-from-state : tie.Need-element-set-from-state Inv-loop μ-loop
+element-set-from-state c = search needs
 
 add-i : tie.Need-add-i Inv-loop μ-loop
 add-i c = search needs
@@ -57,14 +68,18 @@ loop-less c = search needs
 loop-again : tie.Need-loop-again Inv-loop μ-loop
 unfolding bytes
 loop-again c =
-    hands-on (c .before .before .before .before .before .before .loop .inv) _ (omega arith) (c .before .before .put-message .ensures)
+    let w = c .before .before .before in
+    let l = w .before .before .before .before in
+    drains-on (l .loop .inv) _ (w .before .before .before .loop-test .taken) (w .put-message .ensures) (c .empty .ensures)
 
 same-length : tie.Need-same-length Inv-loop μ-loop
 same-length c = search needs
 
 returns : tie.Need-returns Inv-loop μ-loop
 unfolding udataBytesOf
-returns c = handed (c .before .loop .inv) (omega arith)
+returns c =
+    let inv = c .before .loop .inv in
+    (all-drained inv (c .loop-test .left), all-handed inv (c .loop-test .left))
 
 pub submit-udata-msgs-to-umac-spec : {M : Type 1} → statement M
 submit-udata-msgs-to-umac-spec =
@@ -76,6 +91,9 @@ submit-udata-msgs-to-umac-spec =
     mul-put-message
     element-copy-out-put-message
     put-message-requires
+    empty-requires
+    mul-t12
+    element-set-from-state
     add-i
     loop-less
     loop-again
