@@ -1,6 +1,7 @@
 pub mod Choices
 pub mod Digits
 pub mod Feeding
+pub mod Gathering
 pub mod Steps
 pub mod Writes
 pub mod RoundTrip

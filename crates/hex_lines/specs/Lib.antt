@@ -1,4 +1,5 @@
 pub mod Lines
 pub mod Gathering
 pub mod Fed
+pub mod Reading
 pub mod Wrote

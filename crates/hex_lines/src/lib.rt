@@ -1,7 +1,10 @@
 // Lines of hexadecimal digits: calls gathered from them character by character, numbers and bytes written as lines.
+mod chunks;
 mod reading;
 mod writing;
 
+pub use chunks::Gathered;
+pub use chunks::gather;
 pub use writing::put_hex;
 pub use writing::put_line;
 pub use writing::put_number;

@@ -7,7 +7,7 @@ ghost use lib.Seq.{slice};
 ghost use Rattle.hex_lines.specs.Lines.{lineEnd, hexDigit, hexOf, decimalOf};
 ghost use Rattle.hex_lines.specs.Wrote.{Wrote};
 
-const LINE_END: u8 = 10;
+pub(crate) const LINE_END: u8 = 10;
 
 // Writes one character.
 fn put(out: &mut [u8], at: usize, c: u8) -> usize

@@ -2,9 +2,9 @@
 ghost use Prim.Native.Nat.{_+_, _*_, _≤_};
 ghost use lib.ListN.{length};
 use crate::answers::answer;
-use crate::lines::gather;
 use crate::output::write_out;
 use hex_lines::Line;
+use hex_lines::gather;
 use llc_state::State;
 
 // What is under way between two chunks.

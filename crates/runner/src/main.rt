@@ -4,7 +4,6 @@ mod answers;
 mod buffers;
 mod chunks;
 mod input;
-mod lines;
 mod output;
 
 fn main() {

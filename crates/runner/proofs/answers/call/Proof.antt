@@ -4,7 +4,7 @@ use borrow.Author.Needs.{needs}
 use lib.Seq.{length-take-le}
 use Rattle.llc.proofs.Ways.{told-fits}
 use Rattle.hex_lines.proofs.Writes.{wrote-length, number-length}
-use Rattle.runner.proofs.Gathering.{few-bytes}
+use Rattle.hex_lines.proofs.Gathering.{few-bytes}
 use Rattle.runner.proofs.answers.call.Statement.{statement}
 use Rattle.runner.proofs.answers.call.Tie as tie
 

@@ -1,0 +1,4 @@
+pub mod Laws
+pub mod Packed
+pub mod Told
+pub mod Examples

@@ -1,0 +1,4 @@
+pub mod Numbers
+pub mod Walked
+pub mod Lines
+pub mod Examples
