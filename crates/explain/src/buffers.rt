@@ -23,7 +23,7 @@ pub(crate) fn out() -> [u8; 46656]
     [0; 46656]
 }
 
-// The text of an answer. The longest has some 200,000 characters: records of 46,656 bytes, two digits a byte and their
+// The text of an answer. The longest seen has 190,000 characters: records of some 46,000 bytes, two digits a byte and their
 // fields' names, and 288 lines of the state.
 pub(crate) fn text() -> [u8; 524288]
     ensures { λ r. ⌜ 524288 ≡ length r ⌝ }

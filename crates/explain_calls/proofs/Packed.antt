@@ -1,9 +1,9 @@
 -- Bits packed into bytes, and their digits put one byte after the other.
-use Prim.Native.Nat.{ℕ, suc, _+_, _-_, _*_, _/_, _^_, _≤_, _<_}
+use Prim.Native.Nat.{ℕ, suc, _+_, _-_, _*_, _/_, _≤_, _<_}
 use native.Mathlib.Omega.{arith}
 use mathlib.Core.Path.{_≡_, _∙_, refl, sym, ap}
 use mathlib.Core.List.{List, [], _∷_, _++_, append-assoc}
-use lib.ListN.{length, take, drop, replicate, length-append}
+use lib.ListN.{length, replicate, length-append}
 use lib.Seq.{take-at, drop-at}
 use Rattle.hex_lines.specs.Lines.{hexOf}
 use Rattle.bits.specs.Bits.{bits, part, value}

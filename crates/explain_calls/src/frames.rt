@@ -1,6 +1,5 @@
 // Frames in words, and PDUs taken apart.
 ghost use Prim.Native.Nat.{_+_, _*_, _^_, _≤_, _<_};
-ghost use mathlib.Core.Path.{_≡_};
 ghost use mathlib.Core.List.{_++_};
 ghost use lib.ListN.{length, take};
 ghost use Rattle.bits.specs.Bits.{bits, part};

@@ -1,8 +1,7 @@
 // Requests in words.
 ghost use Prim.Native.Nat.{_+_, _*_, _≤_};
-ghost use mathlib.Core.List.{_++_};
 ghost use lib.ListN.{length};
-ghost use Rattle.llc_calls.specs.Decoded.{requestOf, bytesFrom, bitsFrom, PartsInside, RequestInside};
+ghost use Rattle.llc_calls.specs.Decoded.{requestOf, bytesFrom, bitsFrom, RequestInside};
 ghost use Rattle.words.specs.Put.{Put};
 ghost use Rattle.explain_calls.specs.Requests.{carrierText, maskText, flagsText, partsText, requestText};
 use crate::parts::put_address;

@@ -1,9 +1,9 @@
 -- Numbers of up to four bytes.
 use Prim.Native.Nat.{ℕ, suc, _+_, _*_, _^_, _≤_, _<_}
-use native.Mathlib.Nat.{add-mul, mul-assoc, pow-suc, pow-le-pow-right}
+use native.Mathlib.Nat.{mul-assoc, pow-suc, pow-le-pow-right}
 use native.Mathlib.Omega.{arith}
 use native.Mathlib.Numerals.{add-one}
-use mathlib.Core.Path.{_≡_, _∙_, refl, sym, ap}
+use mathlib.Core.Path.{_≡_, _∙_, refl, ap}
 use mathlib.Core.List.{List, [], _∷_, _++_}
 use lib.ListN.{length, getD, take, length-append}
 use lib.Pow.{pow-add}

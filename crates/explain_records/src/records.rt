@@ -8,6 +8,7 @@ use crate::fields::byte;
 use crate::fields::put_field;
 use crate::fields::size;
 use record_lines::record_end;
+use words::least;
 use words::put;
 
 // The place n behind another, or the last place.
@@ -39,7 +40,7 @@ fn put_record(out: &mut [u8], at: usize, bytes: &[u8]) -> usize
 pub fn put_records(out: &mut [u8], records: &[u8], len: usize) -> usize
     ensures { λ r. ⌜ Put (now (out .entry)) 0 (recordsText (take len (now (records .entry)))) (now (out .exit)) r ⌝ }
 {
-    let last = behind(0, len, records.len());
+    let last = least(len, records.len());
     let mut i = 0;
     let mut p = 0;
     while i < last {

@@ -2,10 +2,10 @@
 use Prim.Native.Nat.{ℕ, zero, suc, _+_, _≤_, _<_, min}
 use native.Mathlib.Omega.{arith}
 use native.Mathlib.Numerals.{add-one}
-use mathlib.Core.Path.{_≡_, _∙_, refl, sym, ap}
+use mathlib.Core.Path.{_≡_, sym, ap}
 use mathlib.Core.List.{List, [], _∷_, _++_, append-assoc, append-nil}
 use lib.ListN.{length, getD, take, length-take}
-use lib.Seq.{take-all, take-suc, take-length}
+use lib.Seq.{take-all, take-suc}
 use Rattle.words.specs.Put.{Put}
 use Rattle.words.proofs.Laws.{_⨾_, none-put}
 use Rattle.explain_state.specs.Lines.{lined}

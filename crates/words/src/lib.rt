@@ -1,7 +1,7 @@
 // Words and numbers put into a lent buffer, one behind the other. What does not fit at its end is cut off.
 ghost use mathlib.Core.Path.{_≡_};
 ghost use mathlib.Core.List.{[], _∷_};
-ghost use Prim.Native.Nat.{_<_, min};
+ghost use Prim.Native.Nat.{min};
 ghost use lib.ListN.{take, drop};
 ghost use Rattle.hex_lines.specs.Lines.{hexOf};
 ghost use Rattle.words.specs.Words.{decimal};

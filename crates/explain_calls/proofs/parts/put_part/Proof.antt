@@ -4,7 +4,7 @@ use Rattle.bits.proofs.Laws.{length-bits, length-part}
 use Rattle.bits.specs.Bits.{bits}
 use Rattle.words.proofs.Laws.{_⨾_}
 use Rattle.words.specs.Words.{text, decimal}
-use mathlib.Core.Path.{sym, ap}
+use mathlib.Core.Path.{ap}
 use native.Mathlib.Omega.{arith}
 use borrow.Author.Needs.{needs}
 use Rattle.explain_calls.proofs.parts.put_part.Statement.{statement}

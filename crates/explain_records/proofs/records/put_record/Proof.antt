@@ -2,9 +2,8 @@ use Rattle.explain_records.proofs.Walked.{Put-so-far, none-so-far, one-
 use Rattle.explain_calls.proofs.Laws.{as-text, rest-all}
 use Rattle.explain_records.specs.Records.{recordText, fieldsText}
 use Rattle.explain_records.specs.Fields.{sizeOf, fieldText}
-use lib.ListN.{length, drop}
+use lib.ListN.{length}
 use mathlib.Core.Path.{_∙_, sym, ap}
-use mathlib.Core.List.{List}
 use Prim.Native.Nat.{ℕ, _+_, _-_, min}
 use Rattle.words.specs.Words.{text}
 use Rattle.words.proofs.Laws.{_⨾_}

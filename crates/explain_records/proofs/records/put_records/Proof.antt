@@ -11,12 +11,12 @@ Inv-loop out₀ records len last i₀ p₀ out i p = Lines out₀ records last o
 abbrev μ-loop : tie.MeasureT-loop
 μ-loop out₀ records len last i₀ p₀ out i p = last - i
 
-behind-requires : tie.Need-behind-requires Inv-loop μ-loop
-behind-requires c κs = search needs
+least-requires : tie.Need-least-requires Inv-loop μ-loop
+least-requires c κs = search needs
 
 loop-holds : tie.Need-loop-holds Inv-loop μ-loop
 loop-holds c =
-    let a = c .before .before .before .args in no-line (a .out .now) (a .records .now) (c .behind .result)
+    let a = c .before .before .before .args in no-line (a .out .now) (a .records .now) (c .least .result)
 
 record-end-requires : tie.Need-record-end-requires Inv-loop μ-loop
 record-end-requires c κs = search needs
@@ -40,7 +40,7 @@ loop-again : tie.Need-loop-again Inv-loop μ-loop
 loop-again c =
     one-line (c .before .before .before .before .before .before .before .loop .inv) (omega (
       arith,
-      (c .before .before .before .before .before .before .before .before .behind .ensures),
+      (c .before .before .before .before .before .before .before .before .least .ensures),
     ))
     (c .before .before .before .before .before .record-end .ensures) (c .before .before .put-record .ensures)
 
@@ -51,7 +51,7 @@ returns : tie.Need-returns Inv-loop μ-loop
 returns c =
     let a = c .before .before .before .before .before .args in
     let w = c .before .loop .inv in
-    all-lines (a .len) w (omega (arith, w .within)) (omega (arith, (c .before .before .behind .ensures)))
+    all-lines (a .len) w (omega (arith, w .within)) (omega (arith, (c .before .before .least .ensures)))
 
 pub put-records-spec : {M : Type 1} → statement M
 put-records-spec =
@@ -59,7 +59,7 @@ put-records-spec =
     (tie.spec
     Inv-loop
     μ-loop
-    behind-requires
+    least-requires
     loop-holds
     record-end-requires
     sub-put-record
