@@ -14,7 +14,8 @@ use Rattle.explain_calls.specs.Calls.{timeText, howText, inWords, outcom
 use Rattle.explain_calls.specs.Numbers.{questionText, numberText}
 
 -- Each line beside the bytes that it is about.
-in-words :
+abbrev pub InWords : Type 0
+InWords =
     (callText (0x21 ∷ 0x00 ∷ 0x04 ∷ 0x05 ∷ 0xfa ∷ 0x00 ∷ 0x04 ∷ [])
     ≡ text "start: main carrier 1530, T251 of 4 slots")
     × (callText (0x22 ∷ 0x00 ∷ 0x05 ∷ 0x00 ∷ 0x00 ∷ 0x01 ∷ 0x02 ∷ 0x03 ∷ [])
@@ -49,6 +50,8 @@ in-words :
     ≡ text "6: refused. Request: is its receipt free?")
     × (numberText 16
     ≡ text "16: refused. Release: is the receipt taken, its message no longer held, and final?")
+
+pub in-words : InWords
 unfolding callText outcomeText inWords timeText howText requestText carrierText flagsText maskText partsText frameText
     pduText readText headerText addressText typeText idsText bytesText bitsText text decimal digits hexOf hexDigit parsed
     filled tagOf inner requestIn frameIn filledFrom fromBytes bits toBits value packed reading numberText questionText

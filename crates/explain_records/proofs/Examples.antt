@@ -14,7 +14,8 @@ use Rattle.explain_records.specs.Fields.{kindText, stealText, fcsText, u
 use Rattle.explain_records.specs.Records.{fieldsText, recordText, linesText, recordsText}
 
 -- Each line beside the bytes that it is about.
-in-words :
+abbrev pub InWords : Type 0
+InWords =
     (recordsText (0x01 ∷ 0x00 ∷ 0x01 ∷ 0x01 ∷ 0x02 ∷ 0x00 ∷ 0x03 ∷ 0x00 ∷ 0x03 ∷ 0xe9 ∷ 0x03 ∷ 0x00 ∷ 0x01 ∷ 0x01 ∷ 0x04 ∷
     0x00 ∷ 0x02 ∷ 0x05 ∷ 0xfa ∷ 0x05 ∷ 0x00 ∷ 0x04 ∷ 0x00 ∷ 0x00 ∷ 0x00 ∷ 0x00 ∷ 0x06 ∷ 0x00 ∷ 0x04 ∷ 0x00 ∷ 0x00 ∷ 0x00 ∷
     0x00 ∷ 0x07 ∷ 0x00 ∷ 0x04 ∷ 0x00 ∷ 0x00 ∷ 0x00 ∷ 0x2a ∷ 0x08 ∷ 0x00 ∷ 0x01 ∷ 0x00 ∷ 0x09 ∷ 0x00 ∷ 0x01 ∷ 0x02 ∷ 0x0a ∷
@@ -25,6 +26,8 @@ in-words :
     ≡ text "  record: kind 5 unitdata up, SSI 1001, individual, block of 2 bytes [aabb], FCS flag, SDU of 10 bits [4d40]" ++ (10 ∷ []))
     × (recordsText (0x08 ∷ 0 ∷ 0 ∷ 0x01 ∷ 0 ∷ 9 ∷ 0x01 ∷ [])
     ≡ text "  record, no stealing" ++ (10 ∷ []) ++ text "  record, cut short [01000901]" ++ (10 ∷ []))
+
+pub in-words : InWords
 unfolding recordsText linesText recordText fieldsText fieldText valueText countedText numberText unnamedText kindText
     stealText fcsText split cut fromBytes bits toBits value packed reading pduText readText headerText typeText bytesText
     bitsText text decimal digits hexOf hexDigit

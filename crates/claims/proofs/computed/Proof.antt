@@ -1,0 +1,44 @@
+use Rattle.claims.proofs.computed.Statement.{statement}
+use Rattle.claims.proofs.computed.Tie as tie
+use Rattle.llc_rule.proofs.Runs.Sample as Sample
+use Rattle.llc_rule.proofs.Runs.Edges as Edges
+use Rattle.llc_rule.proofs.Runs.Course as Course
+use Rattle.llc_rule.proofs.Runs.Awkward as Awkward
+use Rattle.llc_rule.proofs.Runs.Marks as Marks
+use Rattle.llc_rule.proofs.Instance as Instance
+
+returns : tie.Need-returns
+returns c = record {
+  sample-agrees = Sample.sample-agrees;
+  lengths-agrees = Edges.lengths-agrees;
+  ranges-agrees = Edges.ranges-agrees;
+  sdus-agrees = Edges.sdus-agrees;
+  age-agrees = Edges.age-agrees;
+  messages-agrees = Edges.messages-agrees;
+  unacknowledged-agrees = Edges.unacknowledged-agrees;
+  dues-agrees = Edges.dues-agrees;
+  rows-agrees = Edges.rows-agrees;
+  release-agrees = Course.release-agrees;
+  refused-by-8-agrees = Course.refused-by-8-agrees;
+  too-early-agrees = Course.too-early-agrees;
+  to-the-front-agrees = Course.to-the-front-agrees;
+  garbage-agrees = Awkward.garbage-agrees;
+  values-agrees = Awkward.values-agrees;
+  front-agrees = Awkward.front-agrees;
+  still-agrees = Awkward.still-agrees;
+  early-agrees = Awkward.early-agrees;
+  discarded-agrees = Awkward.discarded-agrees;
+  leaves-agrees = Awkward.leaves-agrees;
+  lost-agrees = Awkward.lost-agrees;
+  ages-agrees = Awkward.ages-agrees;
+  unacked-agrees = Awkward.unacked-agrees;
+  stealing-agrees = Awkward.stealing-agrees;
+  frames-agrees = Awkward.frames-agrees;
+  restart-agrees = Awkward.restart-agrees;
+  marks-agrees = Marks.marks-agrees;
+  marks-left = Marks.marks-left;
+  instance-agrees = Instance.instance-agrees;
+}
+
+pub computed-spec : {M : Type 1} → statement M
+computed-spec = tie.close (tie.spec returns)

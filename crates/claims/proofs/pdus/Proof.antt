@@ -1,0 +1,18 @@
+use Rattle.claims.proofs.pdus.Statement.{statement}
+use Rattle.claims.proofs.pdus.Tie as tie
+use Rattle.llc_pdus.proofs.Laws as Laws
+use Rattle.llc_pdus.proofs.Holding as Holding
+use Rattle.llc_pdus.proofs.RoundTrip as RoundTrip
+
+returns : tie.Need-returns
+returns c = record {
+  header-reads = Laws.header-reads;
+  reading-header = Laws.reading-header;
+  from-raw = Laws.from-raw;
+  held-bits = Holding.held-bits;
+  reads-back = RoundTrip.reads-back;
+  sdu-back = RoundTrip.sdu-back;
+}
+
+pub pdus-spec : {M : Type 1} → statement M
+pdus-spec = tie.close (tie.spec returns)

@@ -1,0 +1,42 @@
+-- Runs that the checker computes (llc_rule proofs/Runs): document 01's sample, its edges, what the course gets wrong, awkward runs, marks.
+use mathlib.Core.Path.{_≡_}
+use mathlib.Core.Bool.{true}
+use Rattle.llc_rule.specs.Link.{new}
+use Rattle.llc_rule.proofs.Runs.Sample.{sample}
+use Rattle.llc_rule.proofs.Runs.{agrees, linkAfter}
+use Rattle.llc_rule.proofs.Runs.Edges.{age, crowded, dues, lengths, messages, ranges, rows, sdus, unacknowledged}
+use Rattle.llc_rule.proofs.Runs.Course.{refused-by-8, release, to-the-front, too-early}
+use Rattle.llc_rule.proofs.Runs.Awkward.{ages, discarded, early, frames, front, garbage, leaves, lost, restart, stealing, still, unacked, values}
+use Rattle.llc_rule.proofs.Runs.Marks.{marks, places, samePlaces}
+use Rattle.llc_rule.proofs.Instance.{instance}
+
+pub record Computed : Type 0 where
+  pub sample-agrees : agrees new sample ≡ true
+  pub lengths-agrees : agrees new lengths ≡ true
+  pub ranges-agrees : agrees new ranges ≡ true
+  pub sdus-agrees : agrees new sdus ≡ true
+  pub age-agrees : agrees new age ≡ true
+  pub messages-agrees : agrees new messages ≡ true
+  pub unacknowledged-agrees : agrees new unacknowledged ≡ true
+  pub dues-agrees : agrees new dues ≡ true
+  pub rows-agrees : agrees crowded rows ≡ true
+  pub release-agrees : agrees new release ≡ true
+  pub refused-by-8-agrees : agrees new refused-by-8 ≡ true
+  pub too-early-agrees : agrees new too-early ≡ true
+  pub to-the-front-agrees : agrees new to-the-front ≡ true
+  pub garbage-agrees : agrees new garbage ≡ true
+  pub values-agrees : agrees new values ≡ true
+  pub front-agrees : agrees new front ≡ true
+  pub still-agrees : agrees new still ≡ true
+  pub early-agrees : agrees new early ≡ true
+  pub discarded-agrees : agrees new discarded ≡ true
+  pub leaves-agrees : agrees new leaves ≡ true
+  pub lost-agrees : agrees new lost ≡ true
+  pub ages-agrees : agrees new ages ≡ true
+  pub unacked-agrees : agrees new unacked ≡ true
+  pub stealing-agrees : agrees new stealing ≡ true
+  pub frames-agrees : agrees new frames ≡ true
+  pub restart-agrees : agrees new restart ≡ true
+  pub marks-agrees : agrees new marks ≡ true
+  pub marks-left : samePlaces places (linkAfter new marks .receipts) ≡ true
+  pub instance-agrees : agrees new instance ≡ true

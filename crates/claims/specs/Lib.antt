@@ -1,0 +1,14 @@
+pub mod Runs
+pub mod SlotTime
+pub mod Receipts
+pub mod Bits
+pub mod CheckSequence
+pub mod Pdus
+pub mod LinkAsLists
+pub mod Computed
+pub mod Calls
+pub mod Records
+pub mod StateAndStore
+pub mod Text
+pub mod Words
+pub mod Examples

@@ -1,0 +1,45 @@
+-- The link as lists, and demand 3 of it (llc_rule).
+use Prim.Native.Nat.{ℕ, _+_, _/_, _≤_}
+use mathlib.Core.Path.{_≡_}
+use mathlib.Core.Bool.{true}
+use mathlib.Core.List.{List, _∷_}
+use lib.ListN.{drop, length}
+use Rattle.llc_rule.specs.Claim.{Demand3, OneUnderWay, Swap, unhindered}
+use Rattle.llc_rule.specs.Sendings.{HandedDown}
+use Rattle.llc_rule.specs.Link.{Link, new}
+use Rattle.llc_rule.specs.Runs.{after, given, run}
+use Rattle.llc_rule.specs.Past.{holdersAfter, nobody}
+use Rattle.llc_rule.specs.Sound.{All, Sound, Within}
+use Rattle.llc_rule.specs.Records.{Indication, Record, Reply, Sent, allBytes, bytes, indicationBytes, replyBytes, sentBytes}
+use Rattle.llc_rule.specs.Sizes.{Fits, Small}
+use Rattle.llc_rule.specs.Step.{step}
+use Rattle.llc_rule.proofs.Instance.{instanceCalls}
+use Rattle.llc_rule.proofs.Records.{kind, maskSize, sizeIfAny}
+
+pub record LinkAsLists : Type 0 where
+  -- Each is a type with a definition in specs/.
+  pub demand3 : Demand3
+  pub swap : Swap
+  pub one-under-way : OneUnderWay
+  pub handed-down : HandedDown
+  -- The hypothesis of demand 3 can be met.
+  pub unhindered-instance : unhindered (run new instanceCalls) ≡ true
+  -- What holds of queues, tables and receipts after every run.
+  pub sound-run : (cs : List (List ℕ)) → Sound (holdersAfter nobody (run new cs)) (after new cs)
+  -- A record's bytes determine it.
+  pub determined : (r s : Record) → Fits r → Fits s → bytes r ≡ bytes s → r ≡ s
+  -- The bytes of several records determine the records.
+  pub all-determined : (rs ss : List Record) → All Fits rs → All Fits ss → allBytes rs ≡ allBytes ss → rs ≡ ss
+  -- A record's bytes begin with field 01 and its kind.
+  pub begins : (r : Record) → bytes r ≡ 0x01 ∷ 0x00 ∷ 0x01 ∷ kind r ∷ drop 4 (bytes r)
+  -- The lengths: kinds 1 and 3, kind 2, kinds 4 and 5.
+  pub length-sent :
+      (k : ℕ) (s : Sent)
+      → length (sentBytes k s) ≡ 56 + maskSize (s .mask) + length (s .block) + (length (s .pdu) + 7) / 8
+  pub length-reply : (r : Reply) → length (replyBytes r) ≡ 49 + maskSize (r .mask) + (length (r .pdu) + 7) / 8
+  pub length-indication :
+      (k : ℕ) (i : Indication) → length (indicationBytes k i) ≡ 35 + length (i .block) + sizeIfAny (i .sdu)
+  -- A call's records take at most 46,656 bytes; the second hypothesis holds after every run.
+  pub room : (l : Link) → Within l → Small l → (c : List ℕ) → length (allBytes (given (step l c))) ≤ 46656
+  pub new-small : Small new
+  pub small-after : (l : Link) → Small l → (cs : List (List ℕ)) → Small (after l cs)

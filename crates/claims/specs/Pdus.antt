@@ -1,0 +1,38 @@
+-- PDUs (llc_pdus).
+use Prim.Native.Nat.{ℕ, _%_, _*_, _+_, _<_, _≤_}
+use mathlib.Core.Path.{_≡_}
+use mathlib.Core.List.{List, _++_}
+use lib.ListN.{length, take}
+use Rattle.questions.specs.Outcome.{accepted}
+use Rattle.bits.specs.Bits.{AllBits, bits, part, splice}
+use Rattle.llc_pdus.specs.Headers.{Reading, header, reading}
+use Rattle.llc_pdus.specs.Types.{fromRaw, raw}
+use Rattle.llc_pdus.specs.Sdus.{holding}
+use Rattle.llc_pdus.specs.Writes.{frame}
+use Rattle.llc_pdus.specs.declared.Pdu.{Pdu}
+use Rattle.llc_pdus.specs.declared.llc_pdu_type.LlcPduType.{LlcPduType}
+use Rattle.llc_pdus.specs.declared.llc_pdu_type.TypeOf.{TypeOf}
+
+pub record Pdus : Type 0 where
+  -- What begins with a PDU's header reads as that PDU, with the SDU behind it.
+  pub header-reads : (p : Pdu) (sdu : List ℕ) → reading (header p ++ sdu) ≡ accepted (record { pdu = p; size = length (header p) })
+  -- A list of bits that reads as a PDU begins with its header.
+  pub reading-header : (l : List ℕ) (r : Reading) → AllBits l → reading l ≡ accepted r → take (r .size) l ≡ header (r .pdu)
+  -- Each type is the one with its number.
+  pub from-raw : (t : LlcPduType) → fromRaw (raw t) ≡ TypeOf.Type t
+  -- The bytes handed back hold the SDU, from the place beside them on.
+  pub held-bits :
+      (f : List ℕ) (first n : ℕ)
+      → 0 < n
+      → first + n ≤ 8 * length f
+      → part (bits (holding f first n)) (first % 8) n ≡ part (bits f) first n
+  -- What was written reads back as the same PDU.
+  pub reads-back :
+      (p : Pdu) (l s : List ℕ) (from n : ℕ)
+      → from + n ≤ length s
+      → reading (take (length (header p) + n) (splice l 0 (frame p s from n))) ≡ accepted (record { pdu = p; size = length (header p) })
+  -- And as the same SDU bits.
+  pub sdu-back :
+      (p : Pdu) (l s : List ℕ) (from n : ℕ)
+      → from + n ≤ length s
+      → part (splice l 0 (frame p s from n)) (length (header p)) n ≡ part s from n

@@ -1,0 +1,15 @@
+-- Runs of the entry point (llc_runs).
+use Prim.Native.Nat.{ℕ}
+use mathlib.Core.Path.{_≡_}
+use mathlib.Core.Bool.{true}
+use Rattle.llc_rule.specs.Claim.{unhindered}
+use Rattle.llc_runs.specs.Claim.{Claim, SeesItsOwnPast}
+use Rattle.llc_runs.specs.Runs.{begin, run}
+use Rattle.llc_runs.proofs.Instance.{lents, zeroStore}
+
+pub record Runs : Type 0 where
+  -- All that is claimed of every run.
+  pub claim : Claim
+  -- The hypothesis of demand 3 can be met.
+  pub unhindered-lents : unhindered (run (begin zeroStore) lents) ≡ true
+  pub sees-lents : (a : ℕ) → SeesItsOwnPast zeroStore lents a
