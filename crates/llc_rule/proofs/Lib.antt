@@ -14,6 +14,10 @@ pub mod SeenTickEnd
 pub mod SeenCalls
 pub mod Demand3
 pub mod Records
+pub mod Ranges
+pub mod Held
+pub mod Values
+pub mod FitsRuns
 pub mod Room
 pub mod Swap
 pub mod UnderWay

@@ -2,11 +2,11 @@
 use Prim.Native.Nat.{ℕ, suc, _+_, _≤_, _<_}
 use native.Mathlib.Omega.{arith}
 use mathlib.Core.Path.{_≡_, _∙_}
-use mathlib.Core.Bool.{Bool, true, false, not, _||_, false≢true}
+use mathlib.Core.Bool.{Bool, true, false, not, false≢true}
 use mathlib.Core.List.{List, [], _∷_, _++_}
 use borrow.Author.Tests.{ltb-true, lt-ltb, le-leb}
-use lib.Dec.{eqb, leb, ltb}
-use lib.ListN.{length, length-set}
+use lib.Dec.{eqb, ltb}
+use lib.ListN.{length}
 use Rattle.bits.specs.Bits.{splice}
 use Rattle.bits.proofs.Laws.{length-splice}
 use Rattle.questions.specs.Outcome.{accepted}
@@ -16,14 +16,14 @@ use Rattle.llc_pdus.specs.declared.Pdu.{Pdu}
 use Rattle.llc_pdus.specs.declared.Pdu.the-variants.{BlUdata, BlAck}
 use Rattle.llc_rule.specs.Lists.{any, Found, nothing, first, others}
 use Rattle.llc_rule.specs.Calls.{Request}
-use Rattle.llc_rule.specs.Ranges.{steals, wantsFcs, hasMask, isType, isReceipt, requestInRange}
+use Rattle.llc_rule.specs.Ranges.{steals, wantsFcs, requestInRange}
 use Rattle.llc_rule.specs.Messages.{sentOf}
 use Rattle.llc_rule.specs.Sound.{All}
 use Rattle.llc_rule.specs.Step.{onAcknowledgedPath}
-use Rattle.llc_rule.proofs.Lists.{both, by-test, by-choice, either, find-by}
+use Rattle.llc_rule.proofs.Lists.{by-test, by-choice, either, find-by}
+use Rattle.llc_rule.proofs.Ranges.{request-fields}
 use Rattle.llc_rule.proofs.Room.{sent-small}
 use Rattle.llc_state.specs.Ranges.{entryInRange, ackInRange, rowInRange}
-use Rattle.llc_state.specs.Receipts.{pendingPlace}
 use Rattle.llc_state.specs.View.{placeBit}
 use Rattle.llc_state.specs.declared.ScheduledOutAck.{ScheduledOutAck}
 use Rattle.llc_state.specs.declared.LinkSendSeq.{LinkSendSeq}
@@ -67,27 +67,6 @@ length-with-seq-there a b (r ∷ rs) h =
     (λ t. omega arith)
     (λ f. omega (arith, length-with-seq-there a b rs (rw f at h)))
 
--- What question 5 says of the fields of a request that an entry takes over.
-record Fields (r : Request) : Type 0 where
-  type : isType (r .type) ≡ true
-  mask : ltb (r .mask) 16 ≡ true
-  given : hasMask r || eqb (r .mask) 0 ≡ true
-  receipt : isReceipt (r .receipt) ≡ true
-  block : leb (length (r .block)) 64 ≡ true
-
-fields : (r : Request) → requestInRange r ≡ true → Fields r
-unfolding requestInRange
-fields r h =
-    let h₁ = both {y = leb (length (r .sdu)) 2595} h in
-    let h₂ = both {y = leb (length (r .block)) 64} (h₁ .0) in
-    let h₃ = both {y = isReceipt (r .receipt)} (h₂ .0) in
-    let h₄ = both {y = hasMask r || eqb (r .mask) 0} (h₃ .0) in
-    let h₅ = both {y = ltb (r .mask) 16} (h₄ .0) in
-    let h₆ = both {y = ltb (r .flags) 8} (h₅ .0) in
-    let h₇ = both {y = eqb (r .given) 1 || eqb (r .carrier) 0} (h₆ .0) in
-    let h₈ = both {y = leb (r .given) 1} (h₇ .0) in
-    record { type = h₈ .0; mask = h₅ .1; given = h₄ .1; receipt = h₃ .1; block = h₂ .1 }
-
 module _ (r : Request) (s : State) (store : List ℕ) (ok : Sane s store) (ssi : r .ssi < 16777216) (h : requestInRange r ≡ true) where
   -- The new entry is in range, and its frame lies within the store.
   new-in-range :
@@ -97,7 +76,7 @@ module _ (r : Request) (s : State) (store : List ℕ) (ok : Sane s store) (ssi :
       → entryInRange (entryOf r c k place len ns) ≡ true
   unfolding entryInRange entryOf valid
   new-in-range c k place len ns inside short =
-      let t = fields r h in
+      let t = request-fields r h in
       rw (lt-ltb (r .ssi) 16777216 ssi, t .type, t .mask, t .given, t .receipt, t .block, lt-ltb place 96 inside, le-leb len 2601 short)
 
   pdu-short : (p : Pdu) → length (header p ++ r .sdu) ≤ 2601

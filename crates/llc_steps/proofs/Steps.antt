@@ -10,7 +10,7 @@ use Rattle.llc_rule.specs.Received.{received}
 use Rattle.llc_rule.specs.Done.{done}
 use Rattle.llc_rule.specs.Link as Link
 use Rattle.llc_rule.specs.Step as Step
-use Rattle.llc_rule.proofs.Room.{request-lengths}
+use Rattle.llc_rule.proofs.Ranges.{request-lengths}
 use Rattle.llc_state.specs.View.{linkIn}
 use Rattle.llc_state.specs.declared.State.{State}
 use Rattle.llc_state.proofs.View.{started-in, time-in}

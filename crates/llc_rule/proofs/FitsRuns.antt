@@ -1,0 +1,263 @@
+-- Every record of every call of every run fits its fields, so that bytes determine records without a condition.
+use Prim.Native.Nat.{ℕ, _-_, _^_, _≤_, _<_}
+use native.Mathlib.Nat.{pow-le-pow-right}
+use native.Mathlib.Omega.{arith}
+use mathlib.Core.Path.{_≡_}
+use mathlib.Core.Bool.{Bool, true, false, cond, not, _||_}
+use mathlib.Core.List.{List, [], _∷_, map}
+use mathlib.Core.Option.{none, some}
+use borrow.Author.Tests.{leb-true, ltb-true}
+use lib.Dec.{eqb, leb}
+use lib.ListN.{drop, length-append, length-drop}
+use Rattle.bits.proofs.Laws as Bits
+use Rattle.questions.specs.Outcome.{Outcome, accepted, refused, ask}
+use Rattle.llc_pdus.specs.Headers.{Reading, reading, hasFcs, header}
+use Rattle.llc_pdus.specs.declared.Pdu.{Pdu}
+use Rattle.llc_pdus.specs.declared.Pdu.the-variants.{BlAdata, BlData, BlUdata, BlAck}
+use Rattle.llc_pdus.proofs.Laws.{header-short}
+use Rattle.llc_pdus.proofs.Framing.{all-header}
+use Rattle.llc_rule.specs.Calls.{Call, start, tickStart, tickEnd, dataRequest, unitdataRequest, frame, report, release, Request, Frame, parsed}
+use Rattle.llc_rule.specs.Ranges.{hasMask, requestInRange, frameInRange, inRange}
+use Rattle.llc_rule.specs.Records.{Record, acknowledged, unacknowledged}
+use Rattle.llc_rule.specs.Received.{Received, checks, checked, received, nsOf, nrOf, indication, upward}
+use Rattle.llc_rule.specs.Messages.{Due, stealsSlot, replyTo, carrierOf, sentOf}
+use Rattle.llc_rule.specs.Done.{Done}
+use Rattle.llc_rule.specs.Link.{Link, new}
+use Rattle.llc_rule.specs.Step.{onData, onUnitdata, onReceived, onFrame, onReport, onRelease, retransmissions, firstSendings, onTickEnd, receiptFree, onAcknowledgedPath, rowFor, acknowledgedPlace, unacknowledgedPlace, dueRoom, mayFinish, reportable, releasable, isStart, act, called, step}
+use Rattle.llc_rule.specs.Runs.{left, given, Exchange, run}
+use Rattle.llc_rule.specs.Sound.{All}
+use Rattle.llc_rule.specs.Sizes.{FitsMask, FitsBits, FitsSent, FitsIndication, Fits}
+use Rattle.llc_rule.proofs.Lists.{both, either, by-choice, all-append}
+use Rattle.llc_rule.proofs.Ranges.{request-fields, frame-fields, type-at-most, frame-lengths, request-lengths}
+use Rattle.llc_rule.proofs.Held.{asked, AllHeld, Brought, Brings, BringsIn, held-step, passed-retransmissions, passed-firsts}
+use Rattle.llc_rule.proofs.Values.{IsByte, RequestFits, FrameFits, CallFits, CallFitsIn, parsed-fits}
+
+-- The invariant -----------------------------------------------------------------------------------------------------------
+
+-- An acknowledgement due whose values fit the fields of its reply.
+pub record FitsDue (d : Due) : Type 0 where
+  pub ssi : d .ssi < 2 ^ 24
+  pub type : d .type < 2 ^ 8
+  pub carrier : d .carrier < 2 ^ 16
+
+-- A link whose values fit the fields of the records that it will give.
+abbrev pub FitsLink : Link → Type 0
+FitsLink l = AllHeld (λ (n : ℕ). n < 2 ^ 16) FitsSent FitsDue l
+
+pub new-fits : FitsLink new
+unfolding new
+new-fits = record { carrier = omega arith; acknowledged = tt; unacknowledged = tt; due = tt }
+
+-- What a request in range hands down.
+mask-fits : (b : Bool) (m : ℕ) → m < 16 → FitsMask (cond b (some m) none)
+mask-fits true m h = omega arith
+mask-fits false m h = tt
+
+sent-fits :
+    (r : Request) (carrier link : ℕ) (p : Pdu)
+    → RequestFits r
+    → requestInRange r ≡ true
+    → carrier < 2 ^ 16
+    → link < 2 ^ 32
+    → FitsSent (sentOf r carrier link p)
+unfolding sentOf
+sent-fits r carrier link p b e hc hl =
+    let t = request-fields r e in
+    let n = request-lengths r e in
+    let short = header-short p in
+    record {
+      ssi = b .ssi;
+      type = let k = type-at-most (r .type) (t .type) in omega arith;
+      carrier = hc;
+      link = hl;
+      endpoint = b .endpoint;
+      handle = b .handle;
+      mask = mask-fits (hasMask r) (r .mask) (ltb-true (r .mask) 16 (t .mask));
+      receipt = let k = ltb-true (r .receipt) 128 (t .receipt) in omega arith;
+      block = omega (arith, n .0);
+      pdu =
+          record {
+            bits = Bits.all-append (header p) (r .sdu) (all-header p) (b .sdu);
+            count = omega (arith, length-append (header p) (r .sdu), n .1);
+          };
+    }
+
+carrier-fits : (main : ℕ) (r : Request) → RequestFits r → main < 2 ^ 16 → carrierOf main r < 2 ^ 16
+carrier-fits main r b h = either (λ (n : ℕ). n < 2 ^ 16) (eqb (r .given) 1) (b .carrier) h
+
+request-brings :
+    (r : Request) → RequestFits r → requestInRange r ≡ true → Brought (λ (n : ℕ). n < 2 ^ 16) FitsSent FitsDue r
+request-brings r b e =
+    record {
+      plain = λ main p h. sent-fits r (carrierOf main r) 0 p b e (carrier-fits main r b h) (omega arith);
+      linked = λ main p h. sent-fits r (carrierOf main r) (r .link) p b e (carrier-fits main r b h) (b .link);
+    }
+
+call-brings : (c : Call) → CallFits c → inRange c ≡ true → Brings (λ (n : ℕ). n < 2 ^ 16) FitsSent FitsDue c
+unfolding inRange
+call-brings (start carrier t251) b e = b
+call-brings (tickStart time) b e = tt
+call-brings tickEnd b e = tt
+call-brings (dataRequest r) b e = request-brings r b e
+call-brings (unitdataRequest r) b e = request-brings r b e
+call-brings (frame f) b e =
+    λ ns slot.
+    record {
+      ssi = b .ssi;
+      type = let k = type-at-most (f .type) (frame-fields f e .type) in omega arith;
+      carrier = b .carrier;
+    }
+call-brings (report i how) b e = tt
+call-brings (release i) b e = tt
+
+brings-in : (o : Outcome Call) → CallFitsIn o → BringsIn (λ (n : ℕ). n < 2 ^ 16) FitsSent FitsDue o
+brings-in (refused n) b = tt
+brings-in (accepted c) b = call-brings c b
+
+-- Any call of bytes leaves the invariant.
+pub fits-step : (l : Link) → FitsLink l → (c : List ℕ) → All IsByte c → FitsLink (left l (step l c))
+fits-step l h c a = held-step _ _ _ l h c (brings-in (parsed c) (parsed-fits c a))
+
+-- The records -------------------------------------------------------------------------------------------------------------
+
+slot-at-most : (t : ℕ) → stealsSlot t ≡ true → t ≤ 4
+slot-at-most t h = leb-true t 4 (both {x = leb 2 t} h .1)
+
+-- A reply: its mask has bit t - 1 of a slot t up to 4.
+reply-fits : (d : Due) → FitsDue d → Fits (replyTo d)
+unfolding replyTo
+reply-fits d h =
+    record {
+      ssi = h .ssi;
+      type = h .type;
+      carrier = h .carrier;
+      link =
+          by-choice (λ (n : ℕ). n < 2 ^ 32) (stealsSlot (d .slot))
+          (λ t. omega (arith, slot-at-most (d .slot) t))
+          (λ f. omega arith);
+      mask =
+          by-choice FitsMask (stealsSlot (d .slot))
+          (λ t.
+          let k = slot-at-most (d .slot) t in
+          omega (arith, pow-le-pow-right {n = 2} (omega arith) {i = d .slot - 1} {j = 3} (omega arith)))
+          (λ f. tt);
+      pdu = record { bits = all-header (BlAck false (d .nr)); count = omega (arith, header-short (BlAck false (d .nr))) };
+    }
+
+map-fits :
+    {A : Type 0} (P : A → Type 0) (f : A → Record)
+    → ((a : A) → P a → Fits (f a))
+    → (l : List A)
+    → All P l
+    → All Fits (map f l)
+map-fits P f h [] p = tt
+map-fits P f h (a ∷ l) p = (h a (p .0), map-fits P f h l (p .1))
+
+tick-end-fits : (l : Link) → FitsLink l → All Fits (onTickEnd l .records)
+unfolding onTickEnd
+tick-end-fits l h =
+    all-append Fits (retransmissions l .out) _ (passed-retransmissions FitsSent Fits (λ s f. f) l (h .acknowledged) .out)
+    (all-append Fits (firstSendings l .out) _ (passed-firsts FitsSent Fits (λ s f. f) l (h .acknowledged) .out)
+    (all-append Fits (map replyTo (l .due)) _ (map-fits FitsDue replyTo reply-fits (l .due) (h .due))
+    (map-fits FitsSent unacknowledged (λ s f. f) (l .unacknowledged) (h .unacknowledged))))
+
+-- What goes up of a frame: a part of it.
+abbrev SduFits : Outcome Received → Type 0
+SduFits (refused n) = Unit {0}
+SduFits (accepted r) = FitsBits (r .sdu)
+
+sdu-fits : (l : List ℕ) (o : Outcome Reading) → FitsBits l → SduFits (checked l o)
+unfolding checked
+sdu-fits l (refused n) h = tt
+sdu-fits l (accepted r) h =
+    asked SduFits 12 (not (hasFcs (r .pdu)) || checks (drop (r .size) l)) _ tt
+    (λ e. record { bits = Bits.all-drop (r .size) l (h .bits); count = omega (arith, length-drop (r .size) l, h .count) })
+
+one-up :
+    (f : Frame) (p : Pdu) (link : ℕ) (sdu : List ℕ)
+    → FrameFits f
+    → frameInRange f ≡ true
+    → link < 2 ^ 32
+    → FitsBits sdu
+    → FitsIndication (indication f p link sdu)
+one-up f p link sdu b e hl hs =
+    record {
+      ssi = b .ssi;
+      type = let k = type-at-most (f .type) (frame-fields f e .type) in omega arith;
+      link = hl;
+      endpoint = b .endpoint;
+      block = omega (arith, frame-lengths f e .0);
+      sdu = hs;
+    }
+
+up-fits : (f : Frame) (p : Pdu) (sdu : List ℕ) → FrameFits f → frameInRange f ≡ true → FitsBits sdu → All Fits (upward f p sdu)
+unfolding upward
+up-fits f (BlAdata c nr ns) sdu b e h = (one-up f (BlAdata c nr ns) (f .link) sdu b e (b .link) h, tt)
+up-fits f (BlData c ns) sdu b e h = (one-up f (BlData c ns) (f .link) sdu b e (b .link) h, tt)
+up-fits f (BlUdata c) sdu b e h = (one-up f (BlUdata c) 0 sdu b e (omega arith) h, tt)
+up-fits f (BlAck c nr) [] b e h = tt
+up-fits f (BlAck c nr) (x ∷ sdu) b e h = (one-up f (BlAck c nr) 0 (x ∷ sdu) b e (omega arith) h, tt)
+
+-- The records of an outcome fit.
+abbrev Gives : Outcome (Done Link) → Type 0
+Gives o = All Fits (given o)
+
+ask-gives : (n : ℕ) (b : Bool) (o : Outcome (Done Link)) → Gives o → Gives (ask n b o)
+ask-gives n b o f = asked Gives n b o tt (λ e. f)
+
+received-gives :
+    (f : Frame) (o : Outcome Received) (l : Link) → FrameFits f → frameInRange f ≡ true → SduFits o → Gives (onReceived f o l)
+unfolding onReceived
+received-gives f (refused n) l b e s = tt
+received-gives f (accepted r) l b e s =
+    ask-gives 13 (dueRoom (nsOf (r .header)) l) _
+    (ask-gives 14 (mayFinish f (nrOf (r .header)) l) _ (up-fits f (r .header) (r .sdu) b e s))
+
+frame-gives : (f : Frame) (l : Link) → FrameFits f → frameInRange f ≡ true → Gives (onFrame f l)
+unfolding onFrame received
+frame-gives f l b e =
+    received-gives f (received (f .pdu)) l b e
+    (sdu-fits (f .pdu) (reading (f .pdu)) (record { bits = b .pdu; count = omega (arith, frame-lengths f e .1) }))
+
+data-gives : (r : Request) (l : Link) → Gives (onData r l)
+unfolding onData
+data-gives r l =
+    ask-gives 6 (receiptFree r l) _
+    (either Gives (onAcknowledgedPath r)
+    (ask-gives 7 (rowFor r l) _ (ask-gives 8 (acknowledgedPlace l) _ tt))
+    (ask-gives 8 (unacknowledgedPlace l) _ tt))
+
+act-gives : (l : Link) → FitsLink l → (c : Call) → CallFits c → inRange c ≡ true → Gives (act c l)
+unfolding act inRange onUnitdata onReport onRelease
+act-gives l h (start carrier t251) b e = tt
+act-gives l h (tickStart time) b e = tt
+act-gives l h tickEnd b e = tick-end-fits l h
+act-gives l h (dataRequest r) b e = data-gives r l
+act-gives l h (unitdataRequest r) b e = ask-gives 6 (receiptFree r l) _ (ask-gives 8 (unacknowledgedPlace l) _ tt)
+act-gives l h (frame f) b e = frame-gives f l b e
+act-gives l h (report i how) b e = ask-gives 15 (reportable i l) _ tt
+act-gives l h (release i) b e = ask-gives 16 (releasable i l) _ tt
+
+called-gives : (l : Link) → FitsLink l → (o : Outcome Call) → CallFitsIn o → Gives (called l o)
+unfolding called
+called-gives l h (refused n) b = tt
+called-gives l h (accepted c) b =
+    ask-gives 4 (isStart c || l .started) _ (asked Gives 5 (inRange c) (act c l) tt (λ e. act-gives l h c b e))
+
+-- The records of any call of bytes.
+pub fits-given : (l : Link) → FitsLink l → (c : List ℕ) → All IsByte c → All Fits (given (step l c))
+unfolding step
+fits-given l h c a = called-gives l h (parsed c) (parsed-fits c a)
+
+-- Runs --------------------------------------------------------------------------------------------------------------------
+
+-- The records of each call of a run.
+pub fits-run :
+    (l : Link)
+    → FitsLink l
+    → (cs : List (List ℕ))
+    → All (All IsByte) cs
+    → All (λ (e : Exchange). All Fits (e .records)) (run l cs)
+unfolding run
+fits-run l h [] a = tt
+fits-run l h (c ∷ cs) a = (fits-given l h c (a .0), fits-run (left l (step l c)) (fits-step l h c (a .0)) cs (a .1))

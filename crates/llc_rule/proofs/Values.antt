@@ -1,0 +1,122 @@
+-- The values of a call whose bytes are bytes fit their fields: n bytes spell a number below 256 ^ n.
+use Prim.Native.Nat.{ℕ, zero, suc, _+_, _^_, _≤_, _<_}
+use native.Mathlib.Nat.{pow-succ', pow-le-pow-right}
+use native.Mathlib.Omega.{arith}
+use mathlib.Core.Bool.{Bool}
+use mathlib.Core.List.{List, [], _∷_}
+use lib.Arith.{digits-lt}
+use lib.Dec.{eqb}
+use lib.ListN.{length, getD, take, drop, length-take}
+use Rattle.bits.specs.Bits.{bits, AllBits}
+use Rattle.bits.proofs.Laws as Bits
+use Rattle.questions.specs.Outcome.{Outcome, accepted, refused, ask}
+use Rattle.llc_rule.specs.Calls.{Call, start, tickStart, tickEnd, dataRequest, unitdataRequest, frame, report, release, Request, Frame, fromBytes, numberAt, countAt, bitsAt, requestIn, frameIn, filledFrom, filled, Tag, tag21, tag22, tag23, tag24, tag25, tag26, tag27, tag28, unknown, tagOf, inner, parsed}
+use Rattle.llc_rule.specs.Sound.{All}
+use Rattle.llc_rule.proofs.Held.{asked}
+
+abbrev pub IsByte : ℕ → Type 0
+IsByte b = b < 256
+
+all-take : {A : Type 0} (P : A → Type 0) (n : ℕ) (l : List A) → All P l → All P (take n l)
+all-take P zero l a = tt
+all-take P (suc n) [] a = tt
+all-take P (suc n) (x ∷ l) a = (a .0, all-take P n l (a .1))
+
+all-drop : {A : Type 0} (P : A → Type 0) (n : ℕ) (l : List A) → All P l → All P (drop n l)
+all-drop P zero l a = a
+all-drop P (suc n) [] a = tt
+all-drop P (suc n) (x ∷ l) a = all-drop P n l (a .1)
+
+-- The number that n bytes spell is below 256 ^ n.
+from-bytes-below : (l : List ℕ) → All IsByte l → fromBytes l < 256 ^ length l
+unfolding fromBytes
+from-bytes-below [] a = omega arith
+from-bytes-below (b ∷ l) a = rw (pow-succ' 256 (length l)) (digits-lt (a .0) (from-bytes-below l (a .1)))
+
+number-below : (v : List ℕ) (i n : ℕ) → All IsByte v → numberAt v i n < 256 ^ n
+number-below v i n a =
+    let l : List ℕ = take n (drop i v) in
+    let short : length l ≤ n = omega (arith, length-take n (drop i v)) in
+    omega (
+      arith,
+      from-bytes-below l (all-take IsByte n (drop i v) (all-drop IsByte i v a)),
+      pow-le-pow-right {n = 256} (omega arith) {i = length l} {j = n} short,
+    )
+
+-- What bytes give of a request and of a frame; question 5 gives the rest.
+pub record RequestFits (r : Request) : Type 0 where
+  pub ssi : r .ssi < 2 ^ 24
+  pub carrier : r .carrier < 2 ^ 16
+  pub link : r .link < 2 ^ 32
+  pub endpoint : r .endpoint < 2 ^ 32
+  pub handle : r .handle < 2 ^ 32
+  pub sdu : AllBits (r .sdu)
+
+pub record FrameFits (f : Frame) : Type 0 where
+  pub ssi : f .ssi < 2 ^ 24
+  pub carrier : f .carrier < 2 ^ 16
+  pub link : f .link < 2 ^ 32
+  pub endpoint : f .endpoint < 2 ^ 32
+  pub pdu : AllBits (f .pdu)
+
+abbrev pub CallFits : Call → Type 0
+CallFits (start carrier t251) = carrier < 2 ^ 16
+CallFits (tickStart time) = Unit {0}
+CallFits tickEnd = Unit {0}
+CallFits (dataRequest r) = RequestFits r
+CallFits (unitdataRequest r) = RequestFits r
+CallFits (frame f) = FrameFits f
+CallFits (report receipt how) = Unit {0}
+CallFits (release receipt) = Unit {0}
+
+abbrev pub CallFitsIn : Outcome Call → Type 0
+CallFitsIn (accepted c) = CallFits c
+CallFitsIn (refused n) = Unit {0}
+
+bits-at : (v : List ℕ) (i : ℕ) → AllBits (bitsAt v i)
+bits-at v i =
+    let b : List ℕ = drop (i + 3 + getD v i 0) v in Bits.all-take (countAt v i) (bits b) (Bits.all-bits b)
+
+request-fits : (v : List ℕ) → All IsByte v → RequestFits (requestIn v)
+unfolding requestIn
+request-fits v a =
+    record {
+      ssi = number-below v 0 3 a;
+      carrier = number-below v 5 2 a;
+      link = number-below v 7 4 a;
+      endpoint = number-below v 11 4 a;
+      handle = number-below v 15 4 a;
+      sdu = bits-at v 22;
+    }
+
+frame-fits : (v : List ℕ) → All IsByte v → FrameFits (frameIn v)
+unfolding frameIn
+frame-fits v a =
+    record {
+      ssi = number-below v 0 3 a;
+      carrier = number-below v 4 2 a;
+      link = number-below v 6 4 a;
+      endpoint = number-below v 10 4 a;
+      pdu = bits-at v 14;
+    }
+
+ask-fits : (n : ℕ) (b : Bool) (o : Outcome Call) → CallFitsIn o → CallFitsIn (ask n b o)
+ask-fits n b o f = asked CallFitsIn n b o tt (λ e. f)
+
+inner-fits : (t : Tag) (v : List ℕ) → All IsByte v → CallFitsIn (inner t v)
+unfolding inner
+inner-fits tag21 v a = ask-fits 2 (eqb (length v) 4) _ (number-below v 0 2 a)
+inner-fits tag22 v a = ask-fits 2 (eqb (length v) 5) _ tt
+inner-fits tag23 v a = ask-fits 2 (eqb (length v) 0) _ tt
+inner-fits tag24 v a = ask-fits 2 (filledFrom v 22) _ (request-fits v a)
+inner-fits tag25 v a = ask-fits 2 (filledFrom v 22) _ (request-fits v a)
+inner-fits tag26 v a = ask-fits 2 (filledFrom v 14) _ (frame-fits v a)
+inner-fits tag27 v a = ask-fits 2 (eqb (length v) 2) _ tt
+inner-fits tag28 v a = ask-fits 2 (eqb (length v) 1) _ tt
+inner-fits unknown v a = tt
+
+-- The values of any call.
+pub parsed-fits : (bytes : List ℕ) → All IsByte bytes → CallFitsIn (parsed bytes)
+unfolding parsed
+parsed-fits bytes a =
+    ask-fits 2 (filled bytes) _ (inner-fits (tagOf (getD bytes 0 0)) (drop 3 bytes) (all-drop IsByte 3 bytes a))
