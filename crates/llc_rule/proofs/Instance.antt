@@ -7,7 +7,7 @@ use mathlib.Core.List.{List, [], _∷_, map}
 use Rattle.llc_rule.specs.Lists.{any, all}
 use Rattle.llc_rule.specs.Calls.{toBytes}
 use Rattle.llc_rule.specs.Link.{new}
-use Rattle.llc_rule.specs.Runs.{run}
+use Rattle.llc_rule.specs.Runs.{run, after}
 use Rattle.llc_rule.specs.Claim.{unhindered, SeesItsOwnPast}
 use Rattle.llc_rule.proofs.Demand3.{demand3}
 use Rattle.llc_rule.proofs.Runs.{Told, hex, _gets_, _and_, exchanges, agrees}
@@ -58,5 +58,5 @@ unfolding unhindered run all any toBytes exchanges instance
 unhindered-instance = refl
 
 -- So demand 3 says of it what it says of every address.
-pub sees-instance : (a : ℕ) → SeesItsOwnPast instanceCalls a
+pub sees-instance : (a : ℕ) → SeesItsOwnPast (run new instanceCalls) (after new instanceCalls .receipts) a
 sees-instance = demand3 .each instanceCalls unhindered-instance

@@ -8,7 +8,7 @@ use lib.Dec.{eqb}
 use lib.ListN.{length}
 use Rattle.questions.specs.Outcome.{number}
 use Rattle.llc_rule.specs.Lists.{keep, all, among}
-use Rattle.llc_rule.specs.Messages.{Message}
+use Rattle.llc_rule.specs.Messages.{Message, Place}
 use Rattle.llc_rule.specs.Link.{new}
 use Rattle.llc_rule.specs.Rule.{Own, atFirst, rule}
 use Rattle.llc_rule.specs.Runs.{Exchange, left, given, run, after}
@@ -33,28 +33,29 @@ calls es = map (λ (e : Exchange). e .call) es
 unfoldable pub unhindered : List Exchange → Bool
 unhindered es = all (λ (e : Exchange). not (among (e .number) (6 ∷ 7 ∷ 8 ∷ 13 ∷ []))) es
 
--- What demand 3 says of an address a and a run of calls cs from the new link.
-pub record SeesItsOwnPast (cs : List (List ℕ)) (a : ℕ) : Type 0 where
+-- What demand 3 says of an address a, by the exchanges of a run and the receipts that it leaves.
+pub record SeesItsOwnPast (es : List Exchange) (ps : List Place) (a : ℕ) : Type 0 where
   -- Each call of its past gave the number and the records that the rule gives.
-  pub seen : map (sight a) (past a nobody (run new cs)) ≡ ruleSights atFirst (calls (past a nobody (run new cs)))
+  pub seen : map (sight a) (past a nobody es) ≡ ruleSights atFirst (calls (past a nobody es))
   -- It holds the receipts that the rule keeps, with their marks.
   pub receipts :
-      heldBy a (holdersAfter nobody (run new cs)) 0 (after new cs .receipts)
-      ≡ takenFrom 0 (ruleAfter atFirst (calls (past a nobody (run new cs))) .receipts)
+      heldBy a (holdersAfter nobody es) 0 ps ≡ takenFrom 0 (ruleAfter atFirst (calls (past a nobody es)) .receipts)
   -- "No other call gives a record with its SSI."
-  pub alone : strays a nobody (run new cs) ≡ []
+  pub alone : strays a nobody es ≡ []
 
 pub record Demand3 : Type 0 where
-  pub each : (cs : List (List ℕ)) → unhindered (run new cs) ≡ true → (a : ℕ) → SeesItsOwnPast cs a
+  pub each :
+      (cs : List (List ℕ))
+      → unhindered (run new cs) ≡ true
+      → (a : ℕ)
+      → SeesItsOwnPast (run new cs) (after new cs .receipts) a
 
 -- "So two neighbouring calls about different addresses, neither of them a tick or a start, may change places, if that makes no
--- such refusal, and no address sees a difference." What an address a sees of one list of calls, it sees of another.
-pub record SeesTheSame (a : ℕ) (cs ds : List (List ℕ)) : Type 0 where
-  pub sameCalls : calls (past a nobody (run new cs)) ≡ calls (past a nobody (run new ds))
-  pub sameSights : map (sight a) (past a nobody (run new cs)) ≡ map (sight a) (past a nobody (run new ds))
-  pub sameReceipts :
-      heldBy a (holdersAfter nobody (run new cs)) 0 (after new cs .receipts)
-      ≡ heldBy a (holdersAfter nobody (run new ds)) 0 (after new ds .receipts)
+-- such refusal, and no address sees a difference." What an address a sees of one run, it sees of another.
+pub record SeesTheSame (a : ℕ) (es : List Exchange) (ps : List Place) (fs : List Exchange) (qs : List Place) : Type 0 where
+  pub sameCalls : calls (past a nobody es) ≡ calls (past a nobody fs)
+  pub sameSights : map (sight a) (past a nobody es) ≡ map (sight a) (past a nobody fs)
+  pub sameReceipts : heldBy a (holdersAfter nobody es) 0 ps ≡ heldBy a (holdersAfter nobody fs) 0 qs
 
 -- Whose a call is after other calls.
 abbrev pub whoseAfter : List (List ℕ) → List ℕ → Whose
@@ -69,7 +70,11 @@ pub record Swap : Type 0 where
       → unhindered (run new (before ++ (c ∷ d ∷ later))) ≡ true
       → unhindered (run new (before ++ (d ∷ c ∷ later))) ≡ true
       → (a : ℕ)
-      → SeesTheSame a (before ++ (c ∷ d ∷ later)) (before ++ (d ∷ c ∷ later))
+      → SeesTheSame a
+      (run new (before ++ (c ∷ d ∷ later)))
+      (after new (before ++ (c ∷ d ∷ later)) .receipts)
+      (run new (before ++ (d ∷ c ∷ later)))
+      (after new (before ++ (d ∷ c ∷ later)) .receipts)
 
 -- "By that rule an address has at most one acknowledged message under way", after every list of calls: those that the rule
 -- keeps, and on the link, whatever was refused.

@@ -9,10 +9,9 @@ use borrow.Author.Tests.{eqb-true}
 use lib.Dec.{eqb}
 use lib.ListN.{length}
 use Rattle.bits.proofs.Laws.{length-bits}
-use Rattle.questions.specs.Outcome.{Outcome, accepted, refused, number}
+use Rattle.questions.specs.Outcome.{number}
 use Rattle.llc_rule.specs.Lists.{keep}
 use Rattle.llc_rule.specs.Calls.{Request, parsed}
-use Rattle.llc_rule.specs.Records.{allBytes}
 use Rattle.llc_rule.specs.Link.{Link, new}
 use Rattle.llc_rule.specs.Step.{step}
 use Rattle.llc_rule.specs.Rule.{atFirst}
@@ -20,7 +19,7 @@ use Rattle.llc_rule.specs.Runs as Rule
 use Rattle.llc_rule.specs.Runs.{Exchange}
 use Rattle.llc_rule.specs.Past.{Holders, nobody, belongsTo, whose, past, strays, holdersAfter, sight, heldBy, takenFrom}
 use Rattle.llc_rule.specs.Claim as OnLink
-use Rattle.llc_rule.specs.Claim.{ruleSights, ruleAfter, calls, unhindered, underWay}
+use Rattle.llc_rule.specs.Claim.{ruleSights, ruleAfter, calls, unhindered, SeesItsOwnPast, SeesTheSame, underWay}
 use Rattle.llc_rule.specs.Sound.{ofAddress}
 use Rattle.llc_rule.specs.Sendings.{requestOf, sendings, AtMostFour}
 use Rattle.llc_rule.proofs.Lists.{by-test, if-true, if-false, clash}
@@ -30,29 +29,15 @@ use Rattle.llc_rule.proofs.UnderWay.{one-under-way}
 use Rattle.llc_rule.proofs.Sendings.{handed-down}
 use Rattle.llc_state.specs.Ranges.{inRange}
 use Rattle.llc_state.proofs.View.{new-in-range}
-use Rattle.llc_steps.specs.States.{Kept}
-use Rattle.llc_steps.specs.Answers.{delivered, laidOut}
-use Rattle.llc.specs.Entry.{lentRight, answered, callOf}
-use Rattle.llc_runs.specs.Runs.{Lent, Station, begin, left, recordsOf, given, exchange, run, after}
+use Rattle.llc.specs.Entry.{lentRight}
+use Rattle.llc_runs.specs.Runs.{Lent, Station, begin, left, exchange, run, after}
 use Rattle.llc_runs.specs.Heard.{fits, fitting, putTo}
-use Rattle.llc_runs.specs.Claim.{linkAt, Shown, InRange, SeesItsOwnPast, SeesTheSame, whoseAfter, Claim}
+use Rattle.llc_runs.specs.Outputs.{ReadOff}
+use Rattle.llc_runs.specs.Claim.{linkAt, receiptsAfter, InRange, whoseAfter, Claim}
 use Rattle.llc_runs.proofs.Ones.{past-heard, strays-heard, holders-heard, unhindered-heard, sendings-heard}
 use Rattle.llc_runs.proofs.Numbers.{not-one}
 use Rattle.llc_runs.proofs.Runs.{silent, Asked, asks, asks-not, fitting-append, fitting-yes, fitting-no, follows, wrong-is, stuck, begin-right, begin-wrong, as-step}
-
--- The output of a call, and the length that it answers.
-shown-by :
-    (s : Station) (c : Lent) (o : Outcome Kept)
-    → (delivered (s .state) (s .store) (c .out) o .out ≡ laidOut (recordsOf o) (c .out))
-    × (delivered (s .state) (s .store) (c .out) o .answer .len ≡ length (allBytes (recordsOf o)))
-unfolding laidOut allBytes
-shown-by s c (accepted k) = (refl, refl)
-shown-by s c (refused n) = (refl, refl)
-
-shown : (s : Station) (c : Lent) → Shown s c
-unfolding callOf given
-shown s c =
-    let p = shown-by s c (answered (s .state) (s .store) (c .out) (c .call)) in record { out = p .0; len = p .1 }
+use Rattle.llc_runs.proofs.Outputs.{shown, readable, only, lines}
 
 -- Number 1 tells of what is lent, if a call that is lent what is right is put to the link.
 one-is :
@@ -120,7 +105,10 @@ module _ (store : List ℕ) (cs : List Lent) where
 
 -- Demand 3.
 sees-own :
-    (store : List ℕ) (cs : List Lent) → unhindered (run (begin store) cs) ≡ true → (a : ℕ) → SeesItsOwnPast store cs a
+    (store : List ℕ) (cs : List Lent)
+    → unhindered (run (begin store) cs) ≡ true
+    → (a : ℕ)
+    → SeesItsOwnPast (run (begin store) cs) (receiptsAfter store cs) a
 sees-own store cs u a =
     let d = demand3 .each (putTo store cs) (sym (unhindered-is store cs) ∙ u) a in
     let p = past-is store cs a nobody in
@@ -133,11 +121,32 @@ sees-own store cs u a =
       alone = strays-are store cs a nobody ∙ d .alone;
     }
 
+-- The same of what is read off a run.
+sees-read :
+    (store : List ℕ) (cs : List Lent) (es : List Exchange)
+    → ReadOff (begin store) cs es
+    → unhindered es ≡ true
+    → (a : ℕ)
+    → SeesItsOwnPast es (receiptsAfter store cs) a
+sees-read store cs es r u a =
+    let e = only store cs es r in
+    subst (λ (x : List Exchange). SeesItsOwnPast x (receiptsAfter store cs) a) (sym e)
+    (sees-own store cs (ap unhindered (sym e) ∙ u) a)
+
+-- What an address sees of two lists of calls, on the link and from the entry point.
+abbrev AlikeOnLink : ℕ → List (List ℕ) → List (List ℕ) → Type 0
+AlikeOnLink a cs ds =
+    SeesTheSame a (Rule.run new cs) (Rule.after new cs .receipts) (Rule.run new ds) (Rule.after new ds .receipts)
+
+abbrev Alike : ℕ → List ℕ → List Lent → List Lent → Type 0
+Alike a store cs ds =
+    SeesTheSame a (run (begin store) cs) (receiptsAfter store cs) (run (begin store) ds) (receiptsAfter store ds)
+
 -- Calls that change places: what is seen of the calls that are put to the link is seen of the run.
 sees-same :
     (a : ℕ) (store : List ℕ) (cs ds : List Lent)
-    → OnLink.SeesTheSame a (putTo store cs) (putTo store ds)
-    → SeesTheSame a store cs ds
+    → AlikeOnLink a (putTo store cs) (putTo store ds)
+    → Alike a store cs ds
 sees-same a store cs ds s =
     let p = past-is store cs a nobody in
     let q = past-is store ds a nobody in
@@ -147,13 +156,13 @@ sees-same a store cs ds s =
       sameReceipts = held-are store cs a ∙ s .sameReceipts ∙ sym (held-are store ds a);
     }
 
-sees-itself : (a : ℕ) (cs : List (List ℕ)) → OnLink.SeesTheSame a cs cs
+sees-itself : (a : ℕ) (cs : List (List ℕ)) → AlikeOnLink a cs cs
 sees-itself a cs = record { sameCalls = refl; sameSights = refl; sameReceipts = refl }
 
 -- The same calls are put to the link.
-sees-as-put : (a : ℕ) (store : List ℕ) (cs ds : List Lent) → putTo store cs ≡ putTo store ds → SeesTheSame a store cs ds
+sees-as-put : (a : ℕ) (store : List ℕ) (cs ds : List Lent) → putTo store cs ≡ putTo store ds → Alike a store cs ds
 sees-as-put a store cs ds e =
-    sees-same a store cs ds (subst (OnLink.SeesTheSame a (putTo store cs)) e (sees-itself a (putTo store cs)))
+    sees-same a store cs ds (subst (AlikeOnLink a (putTo store cs)) e (sees-itself a (putTo store cs)))
 
 -- Two calls of which one is not put to the link, in either order.
 one-put : (c d : Lent) (later : List Lent) → fits c ≡ false → fitting (c ∷ d ∷ later) ≡ fitting (d ∷ c ∷ later)
@@ -203,7 +212,7 @@ swapped :
     → unhindered (run (begin store) (before ++ (c ∷ d ∷ later))) ≡ true
     → unhindered (run (begin store) (before ++ (d ∷ c ∷ later))) ≡ true
     → (a : ℕ)
-    → SeesTheSame a store (before ++ (c ∷ d ∷ later)) (before ++ (d ∷ c ∷ later))
+    → Alike a store (before ++ (c ∷ d ∷ later)) (before ++ (d ∷ c ∷ later))
 unfolding keep
 swapped store before c d later s t c-is d-is differ one other a =
     let cs : List Lent = before ++ (c ∷ d ∷ later) in
@@ -219,8 +228,8 @@ swapped store before c d later s t c-is d-is differ one other a =
     let q = put-right store before (d ∷ c ∷ later) (d .call ∷ c .call ∷ fitting later) right (two-put d c later g f) in
     let with-c = put-right store before (c ∷ []) (c .call ∷ []) right (fitting-yes c [] f) in
     sees-same a store cs ds
-    (subst (λ (x : List (List ℕ)). OnLink.SeesTheSame a x (putTo store ds)) (sym p)
-    (subst (OnLink.SeesTheSame a (put ++ (c .call ∷ d .call ∷ fitting later))) (sym q)
+    (subst (λ (x : List (List ℕ)). AlikeOnLink a x (putTo store ds)) (sym p)
+    (subst (AlikeOnLink a (put ++ (c .call ∷ d .call ∷ fitting later))) (sym q)
     (swap .each put (c .call) (d .call) (fitting later) s t
     (ap (λ (h : Holders). whose h (c .call)) (sym (holders-are store before)) ∙ c-is)
     (ap (λ (x : List (List ℕ)). OnLink.whoseAfter x (d .call)) (sym with-c)
@@ -302,7 +311,11 @@ claim =
       shown = shown;
       inRange = in-range;
       asStep = as-step;
+      readable = readable;
+      only = only;
+      lines = lines;
       demand3 = sees-own;
+      demand3Read = sees-read;
       swap = swapped;
       oneUnderWay = one-by-rule;
       oneInState = one-in-state;

@@ -12,12 +12,12 @@ use Rattle.llc_rule.specs.Lists.{keep, all}
 use Rattle.llc_rule.specs.Calls.{toBytes}
 use Rattle.llc_rule.specs.Link.{new}
 use Rattle.llc_rule.specs.Runs as Rule
-use Rattle.llc_rule.specs.Claim.{unhindered}
+use Rattle.llc_rule.specs.Claim.{unhindered, SeesItsOwnPast}
 use Rattle.llc_rule.specs.Sound.{All}
 use Rattle.llc_rule.proofs.Lists.{both, if-true}
 use Rattle.llc_rule.proofs.Instance.{instance, instanceCalls, unhindered-instance}
 use Rattle.llc_runs.specs.Runs.{Lent, begin, run}
-use Rattle.llc_runs.specs.Claim.{SeesItsOwnPast}
+use Rattle.llc_runs.specs.Claim.{receiptsAfter}
 use Rattle.llc_runs.specs.Heard.{fitting}
 use Rattle.llc_runs.proofs.Runs.{fitting-yes}
 use Rattle.llc_runs.proofs.Claim.{unhindered-is, claim}
@@ -81,5 +81,5 @@ unhindered-lents =
     ∙ unhindered-instance
 
 -- So demand 3 says of it what it says of every address.
-pub sees-lents : (a : ℕ) → SeesItsOwnPast zeroStore lents a
+pub sees-lents : (a : ℕ) → SeesItsOwnPast (run (begin zeroStore) lents) (receiptsAfter zeroStore lents) a
 sees-lents = claim .demand3 zeroStore lents unhindered-lents

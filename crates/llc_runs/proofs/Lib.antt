@@ -1,5 +1,6 @@
 pub mod Ones
 pub mod Numbers
 pub mod Runs
+pub mod Outputs
 pub mod Claim
 pub mod Instance

@@ -8,20 +8,24 @@ use mathlib.Core.Option.{some}
 use lib.Dec.{eqb}
 use lib.ListN.{length}
 use Rattle.llc_rule.specs.Calls.{Request, parsed}
-use Rattle.llc_rule.specs.Records.{allBytes}
+use Rattle.llc_rule.specs.Records.{bytes, allBytes}
+use Rattle.llc_rule.specs.Messages.{Place}
 use Rattle.llc_rule.specs.Link.{Link, new}
 use Rattle.llc_rule.specs.Runs as Rule
+use Rattle.llc_rule.specs.Runs.{Exchange}
 use Rattle.llc_rule.specs.Rule.{atFirst}
-use Rattle.llc_rule.specs.Past.{nobody, Whose, belongsTo, whose, past, strays, holdersAfter, sight, heldBy, takenFrom}
-use Rattle.llc_rule.specs.Claim.{ruleSights, ruleAfter, calls, unhindered, underWay}
+use Rattle.llc_rule.specs.Past.{nobody, Whose, belongsTo, whose, past, holdersAfter}
+use Rattle.llc_rule.specs.Claim.{ruleAfter, calls, unhindered, SeesItsOwnPast, SeesTheSame, underWay}
 use Rattle.llc_rule.specs.Sound.{ofAddress}
 use Rattle.llc_rule.specs.Sendings.{requestOf, sendings, AtMostFour}
+use Rattle.record_lines.specs.Split.{inLines, recordLines}
 use Rattle.llc_state.specs.Ranges.{inRange}
 use Rattle.llc_state.specs.View.{linkIn}
 use Rattle.llc_steps.specs.Answers.{laidOut}
 use Rattle.llc.specs.Entry.{lentRight, callOf}
 use Rattle.llc_runs.specs.Runs.{Lent, Station, begin, left, given, exchange, run, after}
 use Rattle.llc_runs.specs.Heard.{heard, putTo}
+use Rattle.llc_runs.specs.Outputs.{inOutput, ReadOff}
 
 -- The link that state and store hold.
 abbrev pub linkAt : Station → Link
@@ -46,25 +50,9 @@ pub record AsStep (store : List ℕ) (cs : List Lent) : Type 0 where
   pub heard : heard (run (begin store) cs) ≡ Rule.run new (putTo store cs)
   pub link : linkAt (after (begin store) cs) ≡ Rule.after new (putTo store cs)
 
--- Demand 3, of an address a.
-pub record SeesItsOwnPast (store : List ℕ) (cs : List Lent) (a : ℕ) : Type 0 where
-  -- Each call of its past gave the number and the records that the one-address rule gives.
-  pub seen :
-      map (sight a) (past a nobody (run (begin store) cs)) ≡ ruleSights atFirst (calls (past a nobody (run (begin store) cs)))
-  -- It holds the receipts that the rule keeps, with their marks.
-  pub receipts :
-      heldBy a (holdersAfter nobody (run (begin store) cs)) 0 (linkAt (after (begin store) cs) .receipts)
-      ≡ takenFrom 0 (ruleAfter atFirst (calls (past a nobody (run (begin store) cs))) .receipts)
-  -- "No other call gives a record with its SSI."
-  pub alone : strays a nobody (run (begin store) cs) ≡ []
-
--- What an address a sees of one list of calls, it sees of another.
-pub record SeesTheSame (a : ℕ) (store : List ℕ) (cs ds : List Lent) : Type 0 where
-  pub sameCalls : calls (past a nobody (run (begin store) cs)) ≡ calls (past a nobody (run (begin store) ds))
-  pub sameSights : map (sight a) (past a nobody (run (begin store) cs)) ≡ map (sight a) (past a nobody (run (begin store) ds))
-  pub sameReceipts :
-      heldBy a (holdersAfter nobody (run (begin store) cs)) 0 (linkAt (after (begin store) cs) .receipts)
-      ≡ heldBy a (holdersAfter nobody (run (begin store) ds)) 0 (linkAt (after (begin store) ds) .receipts)
+-- The receipts that a run leaves.
+abbrev pub receiptsAfter : List ℕ → List Lent → List Place
+receiptsAfter store cs = linkAt (after (begin store) cs) .receipts
 
 -- Whose a call is after other calls.
 abbrev pub whoseAfter : List ℕ → List Lent → Lent → Whose
@@ -74,13 +62,28 @@ pub record Claim : Type 0 where
   pub shown : (s : Station) (c : Lent) → Shown s c
   pub inRange : (store : List ℕ) (cs : List Lent) → InRange store cs
   pub asStep : (store : List ℕ) (cs : List Lent) → AsStep store cs
+  -- What lies in the outputs of a run reads as its records, and as no others: bytes determine records without a condition.
+  pub readable : (store : List ℕ) (cs : List Lent) → ReadOff (begin store) cs (run (begin store) cs)
+  pub only :
+      (store : List ℕ) (cs : List Lent) (es : List Exchange) → ReadOff (begin store) cs es → es ≡ run (begin store) cs
+  -- And is cut into one line for each record.
+  pub lines :
+      (store : List ℕ) (before : List Lent) (c : Lent)
+      → recordLines (inOutput (after (begin store) before) c) ≡ inLines (map bytes (given (after (begin store) before) c))
   -- Demand 3: for every list of calls, if none was refused for a taken receipt or a full table (6, 7, 8, 13), each address has
   -- seen exactly what the one-address rule gives on its past alone.
   pub demand3 :
       (store : List ℕ) (cs : List Lent)
       → unhindered (run (begin store) cs) ≡ true
       → (a : ℕ)
-      → SeesItsOwnPast store cs a
+      → SeesItsOwnPast (run (begin store) cs) (receiptsAfter store cs) a
+  -- The same of what somebody reads off the answers and outputs alone.
+  pub demand3Read :
+      (store : List ℕ) (cs : List Lent) (es : List Exchange)
+      → ReadOff (begin store) cs es
+      → unhindered es ≡ true
+      → (a : ℕ)
+      → SeesItsOwnPast es (receiptsAfter store cs) a
   -- "So two neighbouring calls about different addresses, neither of them a tick or a start, may change places, if that makes no
   -- such refusal, and no address sees a difference."
   pub swap :
@@ -91,7 +94,11 @@ pub record Claim : Type 0 where
       → unhindered (run (begin store) (before ++ (c ∷ d ∷ later))) ≡ true
       → unhindered (run (begin store) (before ++ (d ∷ c ∷ later))) ≡ true
       → (a : ℕ)
-      → SeesTheSame a store (before ++ (c ∷ d ∷ later)) (before ++ (d ∷ c ∷ later))
+      → SeesTheSame a
+      (run (begin store) (before ++ (c ∷ d ∷ later)))
+      (receiptsAfter store (before ++ (c ∷ d ∷ later)))
+      (run (begin store) (before ++ (d ∷ c ∷ later)))
+      (receiptsAfter store (before ++ (d ∷ c ∷ later)))
   -- "By that rule an address has at most one acknowledged message under way": by the rule on its past, and in the state.
   pub oneUnderWay :
       (store : List ℕ) (cs : List Lent)

@@ -1,3 +1,4 @@
 pub mod Runs
 pub mod Heard
+pub mod Outputs
 pub mod Claim
