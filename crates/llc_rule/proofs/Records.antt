@@ -233,7 +233,8 @@ inCounted-determines p q fp fq e =
     append-cancel (toBytes 2 (length p)) (toBytes 2 (length q)) (pack p) (pack q)
     (length-toBytes 2 (length p) ∙ sym (length-toBytes 2 (length q)))
     e in
-    pack-determines p q (fp .bits) (fq .bits) (toBytes-determine 2 (length p) (length q) (fp .count) (fq .count) (cut .0)) (cut .1)
+    let same = toBytes-determine 2 (length p) (length q) (omega (arith, fp .count)) (omega (arith, fq .count)) (cut .0) in
+    pack-determines p q (fp .bits) (fq .bits) same (cut .1)
 
 last-bits : (p q x y : List ℕ) → FitsBits p → FitsBits q → counted p ++ x ≡ counted q ++ y → (p ≡ q) × (x ≡ y)
 unfolding counted
