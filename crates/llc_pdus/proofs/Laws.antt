@@ -7,16 +7,15 @@ use mathlib.Core.List.{List, [], _∷_, _++_}
 use borrow.Author.Tests.{le-leb, leb-true, not-true}
 use lib.Dec.{leb, eqb}
 use lib.ListN.{length, take}
-use Rattle.bits.specs.Bits.{AllBits}
+use Rattle.bits.specs.Bits.{AllBits, value}
 use Rattle.questions.specs.Outcome.{accepted}
 use Rattle.questions.proofs.Asked.{accepted-passed}
 use Rattle.llc_pdus.specs.Headers.{bit, header, lengthOf, one, Reading, kindAt, readingOf, reading}
-use Rattle.llc_pdus.specs.Types.{raw, fromRaw}
+use Rattle.llc_pdus.specs.Types.{raw, fromRaw, firstBits, typeOf}
 use Rattle.llc_pdus.specs.declared.Pdu.{Pdu}
 use Rattle.llc_pdus.specs.declared.Pdu.the-variants.{BlAdata, BlData, BlUdata, BlAck}
 use Rattle.llc_pdus.specs.declared.llc_pdu_type.LlcPduType.{LlcPduType}
 use Rattle.llc_pdus.specs.declared.llc_pdu_type.LlcPduType.the-variants as Types
-use Rattle.llc_pdus.specs.declared.llc_pdu_type.TypeOf.{TypeOf}
 
 -- A header has at most six bits.
 pub header-short : (p : Pdu) → length (header p) ≤ 6
@@ -26,7 +25,7 @@ header-short (BlUdata fcs) = omega arith
 header-short (BlAck fcs nr) = omega arith
 
 -- Each type is the one with its number.
-pub from-raw : (t : LlcPduType) → fromRaw (raw t) ≡ TypeOf.Type t
+pub from-raw : (t : LlcPduType) → fromRaw (raw t) ≡ accepted t
 from-raw Types.BlAdata = refl
 from-raw Types.BlData = refl
 from-raw Types.BlUdata = refl
@@ -43,6 +42,37 @@ from-raw Types.AlReconnect = refl
 from-raw Types.SuppLlcPdu = refl
 from-raw Types.L2SigPdu = refl
 from-raw Types.AlDisc = refl
+
+-- Its number is the one that the four bits of its PDUs spell.
+pub raw-bits : (t : LlcPduType) → value (firstBits t) ≡ raw t
+unfolding value
+raw-bits Types.BlAdata = refl
+raw-bits Types.BlData = refl
+raw-bits Types.BlUdata = refl
+raw-bits Types.BlAck = refl
+raw-bits Types.BlAdataFcs = refl
+raw-bits Types.BlDataFcs = refl
+raw-bits Types.BlUdataFcs = refl
+raw-bits Types.BlAckFcs = refl
+raw-bits Types.AlSetup = refl
+raw-bits Types.AlDataAlFinal = refl
+raw-bits Types.AlAlUdataAlUfinal = refl
+raw-bits Types.AlAckAlRnr = refl
+raw-bits Types.AlReconnect = refl
+raw-bits Types.SuppLlcPdu = refl
+raw-bits Types.L2SigPdu = refl
+raw-bits Types.AlDisc = refl
+
+-- And a header begins with the four bits of its PDU's type.
+pub header-type : (p : Pdu) → take 4 (header p) ≡ firstBits (typeOf p)
+header-type (BlAdata false nr ns) = refl
+header-type (BlAdata true nr ns) = refl
+header-type (BlData false ns) = refl
+header-type (BlData true ns) = refl
+header-type (BlUdata false) = refl
+header-type (BlUdata true) = refl
+header-type (BlAck false nr) = refl
+header-type (BlAck true nr) = refl
 
 -- A bit is 1 exactly if its flag is set.
 one-bit : (b : Bool) → eqb (bit b) 1 ≡ b

@@ -1,6 +1,6 @@
 // LLC PDU types (clause 21.2.1), from llc_pdu_type.rs.
 ghost use mathlib.Core.Path.{_≡_};
-ghost use Rattle.llc_pdus.specs.Types.{raw, fromRaw};
+ghost use Rattle.llc_pdus.specs.Types.{raw, fromRaw, typed};
 
 /// The type of an LLC PDU, four bits.
 pub enum LlcPduType {
@@ -24,14 +24,16 @@ pub enum LlcPduType {
 
 /// The type with a number, if there is one.
 pub enum TypeOf {
+    /// The type.
     Type(LlcPduType),
+    /// No number of four bits (number 5).
     Unknown,
 }
 
 impl LlcPduType {
     /// The type with a number, which is below 16.
     pub fn try_from(x: u64) -> TypeOf
-        ensures { λ r. ⌜ r ≡ fromRaw x ⌝ }
+        ensures { λ r. ⌜ typed r ≡ fromRaw x ⌝ }
     {
         match x {
             0 => TypeOf::Type(LlcPduType::BlAdata),
