@@ -20,7 +20,39 @@ pub(crate) fn show() {
     read(b"\x38", 5);
     words(b"nine bits of one byte: ");
     read(b"\x10", 9);
+    outside();
     written();
+}
+
+// SDUs that do not lie in the frame: nine bits of one byte, and none from bit 9 on.
+fn outside() {
+    words(b"nine bits of one byte as an SDU: ");
+    held(
+        b"\x10",
+        Sdu {
+            first: 0,
+            len: 9,
+            place: 0,
+        },
+    );
+    words(b"no bits of one byte from bit 8 on: ");
+    held(
+        b"\x10",
+        Sdu {
+            first: 8,
+            len: 0,
+            place: 0,
+        },
+    );
+    words(b"from bit 9 on: ");
+    held(
+        b"\x10",
+        Sdu {
+            first: 9,
+            len: 0,
+            place: 0,
+        },
+    );
 }
 
 fn written() {
@@ -120,7 +152,19 @@ fn place(frame: &[u8], sdu: Sdu) {
     words(b" bits from bit ");
     number(sdu.place as u64);
     words(b" of ");
-    bytes(llc_pdus::sdu_bytes(frame, sdu));
+    held(frame, sdu);
+}
+
+fn held(frame: &[u8], sdu: Sdu) {
+    let mut number = 0;
+    let part = llc_pdus::sdu_bytes(frame, sdu, &mut number);
+    if number != 0 {
+        words(b"no bytes: refused (");
+        crate::text::number(number as u64);
+        words(b")\n");
+        return;
+    }
+    bytes(part);
     words(b"\n");
 }
 

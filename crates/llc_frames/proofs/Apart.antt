@@ -1,57 +1,71 @@
--- A frame taken apart in the bytes that hold it, and question 12 put to the bytes that hold its SDU.
-use Prim.Native.Nat.{ℕ, zero, suc, _+_, _-_, _*_, _%_, _≤_, _<_}
+-- A frame taken apart in the bytes that hold it, and question 12 put to the bytes from the header's last byte onwards.
+use Prim.Native.Nat.{ℕ, zero, suc, _+_, _-_, _*_, _≤_}
 use native.Mathlib.Nat.{zero-add, suc-add}
 use native.Mathlib.Omega.{arith}
 use mathlib.Core.Path.{_≡_, _∙_, refl, sym, ap, subst}
 use mathlib.Core.Bool.{Bool, true, false, not, _&&_, _||_, or-true}
 use mathlib.Core.List.{List, [], _∷_}
-use borrow.Author.Tests.{leb-true, le-leb, ne-eqb}
+use borrow.Author.Tests.{leb-true, le-leb}
 use lib.Dec.{leb, eqb}
-use lib.ListN.{length, take, drop, length-take, length-drop}
+use lib.ListN.{length, take, drop, length-drop}
 use lib.Seq.{length-take-le, take-all, take-take, take-nil, drop-drop}
 use Rattle.bits.specs.Bits.{bits, value, part}
-use Rattle.bits.proofs.Laws.{length-bits, length-part, part-take}
+use Rattle.bits.proofs.Laws.{length-bits, length-part, part-take, drop-bits}
 use Rattle.questions.specs.Outcome.{Outcome, accepted, refused, ask, number}
 use Rattle.questions.proofs.Asked.{accepted-passed}
 use Rattle.fcs.specs.Answers as Fcs
 use Rattle.fcs.specs.Fcs.{fcs}
 use Rattle.llc_pdus.specs.Answers.{Frame, answered, frameOf, framed, readFrom}
-use Rattle.llc_pdus.specs.Headers.{Reading, reading, hasFcs, lengthOf, kindAt, one}
-use Rattle.llc_pdus.specs.Sdus.{sduAt, holding}
+use Rattle.llc_pdus.specs.Headers.{header, Reading, reading, readingOf, hasFcs, lengthOf, kindAt, one}
+use Rattle.llc_pdus.specs.Sdus.{sduAt, headerEnd}
 use Rattle.llc_pdus.specs.declared.Pdu.{Pdu}
 use Rattle.llc_pdus.specs.declared.Read.{Read}
 use Rattle.llc_pdus.specs.declared.Sdu.{Sdu}
-use Rattle.llc_pdus.proofs.Holding.{held-bits}
+use Rattle.llc_pdus.proofs.FirstByte.{header-length}
+use Rattle.llc_pdus.proofs.Laws.{header-ends}
 use Rattle.llc_rule.specs.Received.{received, checked, checks}
+use Rattle.llc_frames.specs.Reading.{SduIn}
 
 -- The bits of the SDU of a frame of n bits.
 abbrev pub sduIn : List ℕ → ℕ → Sdu → List ℕ
 sduIn f n s = part (take n (bits f)) (s .first) (s .len)
 
--- What is known of a frame whose header was read: where the SDU lies, what is left to ask, and what the check of the bytes
--- that hold the SDU answers.
+-- What the check answers of n bits behind a header.
+abbrev pub checkBehind : List ℕ → Pdu → ℕ → Outcome (Unit {0})
+checkBehind f p n = Fcs.check (bits (drop (headerEnd p .byte) f)) (headerEnd p .bits) n
+
+-- What is known of a frame whose header was read: where the SDU lies, what is left to ask, and what the check of the bits
+-- behind the header answers.
 pub record Apart (f : List ℕ) (n : ℕ) (p : Pdu) (s : Sdu) : Type 0 where
-  pub inside : s .first + s .len ≤ n
+  pub known : SduIn s n
+  pub behind : s .first ≡ length (header p)
   pub asks :
       received (take n (bits f))
       ≡ ask 12 (not (hasFcs p) || checks (sduIn f n s)) (accepted (record { header = p; sdu = sduIn f n s }))
-  pub check :
-      Fcs.check (bits (holding f (s .first) (s .len))) (s .place) (s .len) ≡ ask 12 (checks (sduIn f n s)) (accepted tt)
+  pub check : checkBehind f p (s .len) ≡ ask 12 (checks (sduIn f n s)) (accepted tt)
 
 -- What an accepted outcome holds.
 abbrev inner : {A : Type 0} → A → Outcome A → A
 inner d (accepted a) = a
 inner d (refused n) = d
 
--- A header that was read is in the frame.
-size-inside : (l : List ℕ) (r : Reading) → accepted r ≡ reading l → r .size ≤ length l
+-- A header that was read is in the frame, and is its PDU's.
+record Size (l : List ℕ) (r : Reading) : Type 0 where
+  inside : r .size ≤ length l
+  is : r .size ≡ length (header (r .pdu))
+
+size-of : (l : List ℕ) (r : Reading) → accepted r ≡ reading l → Size l r
 unfolding reading
-size-inside l r e =
+size-of l r e =
     let a = accepted-passed 9 (leb 4 (length l)) e in
     let b = accepted-passed 10 (not (one l 0)) (a .1) in
     let c = accepted-passed 11 (leb (lengthOf (kindAt l)) (length l)) (b .1) in
-    let same : r .size ≡ lengthOf (kindAt l) = ap (λ (o : Outcome Reading). inner r o .size) (c .1) in
-    omega (arith, leb-true (lengthOf (kindAt l)) (length l) (c .0))
+    let same : r ≡ readingOf l = ap (inner r) (c .1) in
+    subst (Size l) (sym same)
+    (record {
+      inside = leb-true (lengthOf (kindAt l)) (length l) (c .0);
+      is = sym (header-length (kindAt l) (one l 1) (one l 4) (one l 5));
+    })
 
 -- The last bits of n bits of others.
 drop-take : (m n : ℕ) (l : List ℕ) → drop m (take (m + n) l) ≡ take n (drop m l)
@@ -84,26 +98,21 @@ check-is l at n h =
         let tail : part l (at + (n - 32)) 32 ≡ drop (n - 32) (part l at n) = rw m at (last-part l at (n - 32) 32) in
         rw (e, tail, take-take (n - 32) n (drop at l) (omega arith))
 
--- The bytes that hold n bits of a frame hold them from their place on, and have room for them there.
-place-some : (first n : ℕ) → 0 < n → sduAt first n .place ≡ first % 8
-place-some first n h = rw (ne-eqb n 0 (omega arith))
+-- The bits behind a header, in the bytes from the header's last byte onwards.
+record Behind (f : List ℕ) (p : Pdu) (n : ℕ) : Type 0 where
+  fits : headerEnd p .bits + n ≤ length (bits (drop (headerEnd p .byte) f))
+  same : part (bits (drop (headerEnd p .byte) f)) (headerEnd p .bits) n ≡ part (bits f) (length (header p)) n
 
-record Held (f : List ℕ) (first n : ℕ) : Type 0 where
-  fits : sduAt first n .place + n ≤ length (bits (holding f first n))
-  same : part (bits (holding f first n)) (sduAt first n .place) n ≡ part (bits f) first n
-
-held-is : (f : List ℕ) (first n : ℕ) → first + n ≤ 8 * length f → Held f first n
-held-is f first zero h = record { fits = omega arith; same = refl }
-held-is f first (suc m) h =
-    let n : ℕ = suc m in
-    let b : List ℕ = bits (holding f first n) in
-    let e = place-some first n (omega arith) in
-    let same = held-bits f first n (omega arith) h in
-    let long : length (part b (first % 8) n) ≡ n =
-    ap length same ∙ length-part (bits f) first n (omega (arith, length-bits f)) in
+behind-is : (f : List ℕ) (p : Pdu) (n : ℕ) → length (header p) + n ≤ 8 * length f → Behind f p n
+behind-is f p n h =
+    let k : ℕ = headerEnd p .byte in
+    let m : ℕ = headerEnd p .bits in
+    let ends : 8 * k + m ≡ length (header p) = header-ends p in
     record {
-      fits = rw e (omega (arith, length-take n (drop (first % 8) b), length-drop (first % 8) b));
-      same = rw e same;
+      fits = omega (arith, length-bits (drop k f), length-drop k f);
+      same =
+          ap (λ (t : List ℕ). part t m n) (sym (drop-bits k f))
+          ∙ ap (take n) (drop-drop m (8 * k) (bits f) ∙ ap (λ (q : ℕ). drop q (bits f)) ends);
     }
 
 -- A frame whose header was read.
@@ -117,23 +126,26 @@ apart-at f n r h e =
     let s : Sdu = sduAt (r .size) (n - r .size) in
     let l : List ℕ = take n (bits f) in
     let long : length l ≡ n = length-take-le n (bits f) (omega (arith, length-bits f)) in
-    let size : r .size ≤ n = omega (arith, size-inside l r (sym e)) in
+    let size = size-of l r (sym e) in
+    let short : r .size ≤ n = omega (arith, size .inside) in
     let inside : s .first + s .len ≤ n = omega arith in
     let all : part l (s .first) (s .len) ≡ drop (r .size) l =
     take-all (n - r .size) (drop (r .size) l) (omega (arith, length-drop (r .size) l)) in
     let cut : part l (s .first) (s .len) ≡ part (bits f) (s .first) (s .len) =
     part-take (bits f) n (s .first) (s .len) inside (omega (arith, length-bits f)) in
-    let held = held-is f (s .first) (s .len) (omega arith) in
+    let behind = behind-is f (r .pdu) (s .len) (omega (arith, size .is)) in
     record {
-      inside = inside;
+      known = record { inside = inside; placed = refl };
+      behind = size .is;
       asks =
           ap (checked l) e
           ∙ ap
           (λ (x : List ℕ). ask 12 (not (hasFcs (r .pdu)) || checks x) (accepted (record { header = r .pdu; sdu = x })))
           (sym all);
       check =
-          check-is (bits (holding f (s .first) (s .len))) (s .place) (s .len) (held .fits)
-          ∙ ap (λ (x : List ℕ). ask 12 (checks x) (accepted tt)) (held .same ∙ sym cut);
+          check-is (bits (drop (headerEnd (r .pdu) .byte) f)) (headerEnd (r .pdu) .bits) (s .len) (behind .fits)
+          ∙ ap (λ (x : List ℕ). ask 12 (checks x) (accepted tt))
+          (behind .same ∙ ap (λ (k : ℕ). part (bits f) k (s .len)) (sym (size .is)) ∙ sym cut);
     }
 
 -- What the answer to reading a header says.
@@ -175,21 +187,22 @@ never-five true e = absurd (omega (arith, ap number e))
 never-five false e = absurd (omega (arith, ap number e))
 
 module _ {f : List ℕ} {n : ℕ} {p : Pdu} {s : Sdu} (a : Apart f n p s) where
+  -- The byte that the header ends in is in the frame.
+  pub ends-inside : n ≤ 8 * length f → headerEnd p .byte ≤ length f
+  ends-inside h = omega (arith, a .known .inside, a .behind, header-ends p)
+
   pub unchecked : hasFcs p ≡ false → accepted (record { header = p; sdu = sduIn f n s }) ≡ received (take n (bits f))
   unchecked h = sym (a .asks ∙ rw h)
 
-  abbrev checkIn : Outcome (Unit {0})
-  checkIn = Fcs.check (bits (holding f (s .first) (s .len))) (s .place) (s .len)
-
-  pub right : accepted tt ≡ checkIn → accepted (record { header = p; sdu = sduIn f n s }) ≡ received (take n (bits f))
+  pub right : accepted tt ≡ checkBehind f p (s .len) → accepted (record { header = p; sdu = sduIn f n s }) ≡ received (take n (bits f))
   right e =
       let yes : checks (sduIn f n s) ≡ true = accepted-passed 12 (checks (sduIn f n s)) (e ∙ a .check) .0 in
       sym (a .asks ∙ rw (yes, or-true (not (hasFcs p))))
 
-  pub wrong : hasFcs p ≡ true → refused 12 ≡ checkIn → refused 12 ≡ received (take n (bits f))
+  pub wrong : hasFcs p ≡ true → refused 12 ≡ checkBehind f p (s .len) → refused 12 ≡ received (take n (bits f))
   wrong h e =
       let no : checks (sduIn f n s) ≡ false = refused-failed 12 (checks (sduIn f n s)) tt (e ∙ a .check) in
       sym (a .asks ∙ rw (h, no))
 
-  pub inside-bytes : {G : Type 0} → refused 5 ≡ checkIn → G
+  pub inside-bytes : {G : Type 0} → refused 5 ≡ checkBehind f p (s .len) → G
   inside-bytes e = never-five (checks (sduIn f n s)) (e ∙ a .check)

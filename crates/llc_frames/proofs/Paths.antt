@@ -1,5 +1,5 @@
 -- A frame that came in: what is answered on each path.
-use Prim.Native.Nat.{ℕ, _+_, _-_, _≤_}
+use Prim.Native.Nat.{ℕ, _-_, _*_, _≤_}
 use native.Mathlib.Omega.{arith}
 use native.Mathlib.Nat.{zero-add}
 use mathlib.Core.Path.{_≡_, _∙_, refl, sym, ap, ap₂, subst}
@@ -8,16 +8,20 @@ use mathlib.Core.List.{List, _∷_}
 use mathlib.Core.Option.{Option, none, some}
 use borrow.Author.Tests.{leb-true, leb-false, lt-ltb, le-ltb}
 use lib.Dec.{leb}
-use lib.ListN.{length, take, drop, length-take}
+use lib.ListN.{length, take, drop, length-take, length-drop}
 use Rattle.bits.specs.Bits.{bits, part}
+use Rattle.bits.proofs.Laws.{length-bits, part-take}
 use Rattle.questions.specs.Outcome.{Outcome, accepted, refused, ask}
 use Rattle.tx_receipt.specs.declared.TxState.the-variants.{Acknowledged}
+use Rattle.llc_pdus.specs.Sdus.{sduAt, holding, handed, Part, numbered, handedBack}
 use Rattle.llc_pdus.specs.declared.Pdu.{Pdu}
+use Rattle.llc_pdus.specs.declared.Sdu.{Sdu}
+use Rattle.llc_pdus.proofs.Holding.{held-is, handed-in}
 use Rattle.llc_rule.specs.Lists.{Found, nothing, first}
 use Rattle.llc_rule.specs.Received.{Received, received, nsOf, nrOf, upward}
 use Rattle.llc_rule.specs.Records.{Record, allBytes}
 use Rattle.llc_rule.proofs.Lists.{both}
-use Rattle.llc_calls.specs.Decoded.{frameOf}
+use Rattle.llc_calls.specs.Decoded.{frameOf, FrameInside}
 use Rattle.llc_calls.specs.Ranges.{frameRange}
 use Rattle.llc_calls.specs.declared.FrameCall.{FrameCall}
 use Rattle.llc_records.specs.Wrote.{Wrote}
@@ -33,7 +37,8 @@ use Rattle.llc_steps.specs.States.{messagesOf, withAcks, Kept, kept}
 use Rattle.llc_steps.specs.declared.Answer.{Answer}
 use Rattle.llc_frames.specs.Answered.{foundAt, answeredAt}
 use Rattle.llc_frames.specs.Numbers.{numberIf, nsIn, nrIn, dueTo}
-use Rattle.llc_frames.specs.Reading.{readingOf, SduInside}
+use Rattle.llc_frames.specs.Reading.{readingOf, SduIn, SduInside}
+use Rattle.llc_frames.specs.Upward.{SduLent}
 use Rattle.llc_frames.specs.declared.frames.SeqNumbers.{SeqNumbers}
 use Rattle.llc_frames.specs.declared.reading.Reading.{Reading}
 use Rattle.llc_frames.proofs.Found.{found-is}
@@ -110,13 +115,13 @@ ask-yes n o e = rw e
 ask-no : {A : Type 0} (n : ℕ) {b : Bool} (o : Outcome A) → b ≡ false → ask n b o ≡ refused n
 ask-no n o e = rw e
 
--- The frame f of the call b with the PDU p, whose SDU is len bits from bit at on.
+-- The frame f of the call b with the PDU p, whose SDU is len bits from a place of the part l on.
 module _
-    (s : State) (f : FrameCall) (b : List ℕ) (p : Pdu) (at len : ℕ) (n : SeqNumbers)
+    (s : State) (f : FrameCall) (b : List ℕ) (p : Pdu) (l : List ℕ) (place len : ℕ) (n : SeqNumbers)
     (ns-is : nsIn n ≡ nsOf p) (nr-is : nrIn n ≡ nrOf p)
   where
     abbrev sdu : List ℕ
-    sdu = part (frameOf f b .pdu) at len
+    sdu = part (bits l) place len
 
     abbrev outcome : List ℕ → Outcome Kept
     outcome store = onReceived (frameOf f b) (accepted (record { header = p; sdu = sdu })) s store
@@ -148,13 +153,13 @@ module _
         refused-store 13 s out outcome e (λ store. ask-no 13 _ no)
 
     -- What goes up fits into the output.
-    fits-out : frameRange f ≡ true → at + len ≤ f .«pdu_len» → length (allBytes (upward (frameOf f b) p sdu)) ≤ 434
+    fits-out : frameRange f ≡ true → SduLent l place len → length (allBytes (upward (frameOf f b) p sdu)) ≤ 434
     unfolding frameOf
     fits-out h k =
         let small = frame-small f h in
         up-size (frameOf f b) p sdu
         (omega (arith, length-take (f .«block_len») (drop (f .block) b)))
-        (omega (arith, length-take len (drop at (frameOf f b .pdu))))
+        (omega (arith, length-take len (drop place (bits l)), k .short))
 
     -- Both questions passed: what is left of them is another state.
     passed :
@@ -163,7 +168,7 @@ module _
         → mayFinish (frameOf f b) (nrOf p) s ≡ true
         → answered (frameOf f b) (nrOf p) (scheduled (frameOf f b) (nsOf p) s) s ≡ t
         → frameRange f ≡ true
-        → at + len ≤ f .«pdu_len»
+        → SduLent l place len
         → 46656 ≤ length out
         → r ≡ answer 0 t k
         → Wrote out 0 (allBytes (upward (frameOf f b) p sdu)) m k
@@ -187,7 +192,7 @@ module _
         → n .«has_nr» ≡ false
         → t ≡ withAcks s (dueTo f (nsIn n) s)
         → frameRange f ≡ true
-        → at + len ≤ f .«pdu_len»
+        → SduLent l place len
         → 46656 ≤ length out
         → r ≡ answer 0 t k
         → Wrote out 0 (allBytes (upward (frameOf f b) p sdu)) m k
@@ -227,7 +232,7 @@ module _
           → next ≡ withAcks s (dueTo f (nsIn n) s)
           → t ≡ answeredAt (n .nr) (foundAt i (messagesOf next)) next
           → frameRange f ≡ true
-          → at + len ≤ f .«pdu_len»
+          → SduLent l place len
           → 46656 ≤ length out
           → r ≡ answer 0 t k
           → Wrote out 0 (allBytes (upward (frameOf f b) p sdu)) m k
@@ -254,19 +259,60 @@ module _ (s : State) (f : FrameCall) (b : List ℕ) where
   read-is {x} {y} e h =
       sym (ap₂ readingOf e lent-is) ∙ h ∙ ap received lent-is
 
-  pub sdu-inside : {x : Reading} {p : Pdu} {at len : ℕ} → x ≡ Reading.Frame p at len → SduInside x (f .«pdu_len») → at + len ≤ f .«pdu_len»
-  sdu-inside e h = rw e at h
+  -- The part that the reader hands back of an SDU that was read: its number is 0, and it holds what goes up.
+  abbrev lentBytes : List ℕ
+  lentBytes = take (length b - f .pdu) (drop (f .pdu) b)
+
+  lent-long : FrameInside f b → f .«pdu_len» ≤ 8 * length lentBytes
+  lent-long h = omega (arith, ap length (lent b (f .pdu)) ∙ length-drop (f .pdu) b, h .parts .bitsIn)
+
+  pub record Handed (k : ℕ) (l : List ℕ) (t : Sdu) : Type 0 where
+    pub zeroth : k ≡ 0
+    pub sdu : SduLent l (t .place) (t .len)
+    pub same : part (bits l) (t .place) (t .len) ≡ part lentBits (t .first) (t .len)
+
+  pub handed-back :
+      {k : ℕ} {l : List ℕ} {x : Reading} {p : Pdu} {t : Sdu}
+      → x ≡ Reading.Frame p t
+      → SduInside x (f .«pdu_len»)
+      → frameRange f ≡ true
+      → FrameInside f b
+      → numbered k l ≡ handedBack (handed lentBytes t)
+      → Handed k l t
+  handed-back {k} {l} {x} {p} {t} e i range inside h =
+      let known : SduIn t (f .«pdu_len») = subst (λ (y : Reading). SduInside y (f .«pdu_len»)) e i in
+      let long = lent-long inside in
+      let is = handed-in lentBytes t (omega (arith, known .inside)) h in
+      let bytes : l ≡ holding lentBytes (t .first) (t .len) = ap (λ (q : Part). q .bytes) is in
+      let place : t .place ≡ sduAt (t .first) (t .len) .place = ap (λ (y : Sdu). y .place) (known .placed) in
+      let held = held-is lentBytes (t .first) (t .len) (omega (arith, known .inside)) in
+      let cut = part-take (bits lentBytes) (f .«pdu_len») (t .first) (t .len) (known .inside) (omega (arith, length-bits lentBytes)) in
+      record {
+        zeroth = ap (λ (q : Part). q .number) is;
+        sdu =
+            record {
+              inside = omega (arith, held .fits, ap length bytes);
+              early = omega (arith, held .early);
+              short = omega (arith, known .inside, frame-small f range .1);
+            };
+        same =
+            ap₂ (λ (y : List ℕ) (m : ℕ). part (bits y) m (t .len)) bytes place ∙ held .same ∙ sym cut;
+      }
 
   pub of-frame :
-      {r : Answer} {out m : List ℕ} {x : Reading} {p : Pdu} {at len : ℕ}
-      → x ≡ Reading.Frame p at len
+      {r : Answer} {out m : List ℕ} {x : Reading} {p : Pdu} {k : ℕ} {l : List ℕ} {t : Sdu}
+      → x ≡ Reading.Frame p t
       → readingOf x lentBits ≡ received lentBits
+      → Handed k l t
       → WithAnyStore r m s out
-      (λ (store : List ℕ). onReceived (frameOf f b) (accepted (record { header = p; sdu = part (frameOf f b .pdu) at len })) s store)
+      (λ (store : List ℕ). onReceived (frameOf f b) (accepted (record { header = p; sdu = part (bits l) (t .place) (t .len) })) s store)
       → WithAnyStore r m s out (λ (store : List ℕ). onReceived (frameOf f b) (received (frameOf f b .pdu)) s store)
-  of-frame {r = r} {out = out} {m = m} e h w =
+  of-frame {r = r} {out = out} {m = m} {p = p} e h q w =
       subst (λ (o : Outcome Received). WithAnyStore r m s out (λ (store : List ℕ). onReceived (frameOf f b) o s store))
-      (read-is e h)
+      (ap (λ (y : List ℕ). accepted (record { header = p; sdu = y })) (q .same)
+      ∙ sym (ap (λ (y : Reading). readingOf y lentBits) e)
+      ∙ h
+      ∙ ap received lent-is)
       w
 
   pub of-refused :

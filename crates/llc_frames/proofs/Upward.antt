@@ -7,9 +7,9 @@ use mathlib.Core.List.{List, [], _∷_, _++_, append-nil}
 use borrow.Author.Tests.{leb-true}
 use lib.Dec.{leb}
 use lib.ListN.{length, take, drop, length-take, length-drop}
-use lib.Seq.{take-all, length-take-le}
+use lib.Seq.{take-all}
 use Rattle.bits.specs.Bits.{bits, part}
-use Rattle.bits.proofs.Laws.{length-bits, length-part, part-take}
+use Rattle.bits.proofs.Laws.{length-bits, length-part}
 use Rattle.llc_pdus.specs.declared.Pdu.{Pdu}
 use Rattle.llc_pdus.specs.declared.Pdu.the-variants.{BlAdata, BlData, BlUdata, BlAck}
 use Rattle.llc_rule.specs.Calls.{Frame}
@@ -24,7 +24,7 @@ use Rattle.llc_calls.specs.declared.FrameCall.{FrameCall}
 use Rattle.llc_records.specs.Wrote.{Wrote}
 use Rattle.llc_records.specs.Records as Records
 use Rattle.llc_records.proofs.Wrote.{same-bytes}
-use Rattle.llc_frames.specs.Upward.{sentUp}
+use Rattle.llc_frames.specs.Upward.{sentUp, SduLent}
 
 -- What each PDU sends up.
 module _ (f : Frame) (sdu : List ℕ) where
@@ -76,46 +76,30 @@ frame-small f h =
     let e = both {x = isType (f .«ssi_type») && leb (f .«block_len») 64} {y = leb (f .«pdu_len») 2633} h in
     (leb-true (f .«block_len») 64 (both {x = isType (f .«ssi_type»)} {y = leb (f .«block_len») 64} (e .0) .1), leb-true (f .«pdu_len») 2633 (e .1))
 
--- The bytes of the call from a place on, as they are lent.
+-- The bytes from a place on, as they are lent.
 pub lent : (b : List ℕ) (at : ℕ) → take (length b - at) (drop at b) ≡ drop at b
 lent b at = take-all (length b - at) (drop at b) (omega (arith, length-drop at b))
 
-module _ (f : FrameCall) (b : List ℕ) (inside : FrameInside f b) (first len : ℕ) (fits : first + len ≤ f .«pdu_len») where
-  -- The SDU as it is lent, and as the frame has it.
-  abbrev sduLent : List ℕ
-  sduLent = part (bits (take (length b - f .pdu) (drop (f .pdu) b))) first len
-
+-- The frame f of the call b, and the part l that holds its SDU.
+module _ (f : FrameCall) (b : List ℕ) (inside : FrameInside f b) (l : List ℕ) (place len : ℕ) (sdu : SduLent l place len) where
   abbrev sduOf : List ℕ
-  sduOf = part (frameOf f b .pdu) first len
-
-  lent-long : length (bits (drop (f .pdu) b)) ≡ 8 * length b - 8 * f .pdu
-  lent-long = length-bits (drop (f .pdu) b) ∙ omega (arith, length-drop (f .pdu) b)
-
-  sdu-is : sduLent ≡ sduOf
-  unfolding frameOf
-  sdu-is =
-      ap (λ (l : List ℕ). part (bits l) first len) (lent b (f .pdu))
-      ∙ sym (part-take (bits (drop (f .pdu) b)) (f .«pdu_len») first len fits (omega (arith, lent-long, inside .parts .bitsIn)))
+  sduOf = part (bits l) place len
 
   pub sdu-long : length sduOf ≡ len
-  unfolding frameOf
-  sdu-long =
-      let l : List ℕ = bits (drop (f .pdu) b) in
-      length-part (take (f .«pdu_len») l) first len
-      (omega (arith, length-take-le (f .«pdu_len») l (omega (arith, lent-long, inside .parts .bitsIn))))
+  sdu-long = length-part (bits l) place len (omega (arith, length-bits l, sdu .inside))
 
-  -- The record that goes up, as it is lent, and as the frame has it.
+  -- The record that goes up, as its parts are lent, and as the frame has them.
   abbrev bytesLent : ℕ → ℕ → Bool → List ℕ
   bytesLent kind link fcs =
       indicationBytes kind
       (Records.indication
       (record { ssi = f .ssi; «ssi_type» = f .«ssi_type»; link = link; endpoint = f .endpoint; «has_fcs» = fcs })
       (part b (f .block) (f .«block_len»))
-      sduLent)
+      sduOf)
 
   bytes-are : (kind link : ℕ) (fcs : Bool) → bytesLent kind link fcs ≡ indicationBytes kind (sentUp (frameOf f b) link fcs sduOf)
   unfolding frameOf
-  bytes-are kind link fcs = ap (λ (sdu : List ℕ). indicationBytes kind (sentUp (frameOf f b) link fcs sdu)) sdu-is
+  bytes-are kind link fcs = refl
 
   pub wrote-sdu :
       (kind link : ℕ) (fcs : Bool) {out m : List ℕ} {r : ℕ}
@@ -123,7 +107,7 @@ module _ (f : FrameCall) (b : List ℕ) (inside : FrameInside f b) (first len : 
       → Wrote out 0 (indicationBytes kind (sentUp (frameOf f b) link fcs sduOf)) m r
   wrote-sdu kind link fcs w = same-bytes (bytes-are kind link fcs) w
 
-  -- There is room for it, and its parts lie in the call.
+  -- There is room for it, and its parts lie in what is lent.
   pub asks-sdu :
       (kind link : ℕ) (fcs : Bool) (n : ℕ)
       → frameRange f ≡ true
@@ -131,17 +115,14 @@ module _ (f : FrameCall) (b : List ℕ) (inside : FrameInside f b) (first len : 
       → (f .«block_len» < 2 ^ 16)
       × ((f .block + f .«block_len» ≤ length b)
       × ((len < 2 ^ 16)
-      × ((first + len ≤ 8 * length (take (length b - f .pdu) (drop (f .pdu) b)))
-      × ((first + len < 2 ^ 64) × (0 + length (bytesLent kind link fcs) ≤ n)))))
+      × ((place + len ≤ 8 * length l) × ((place + len < 2 ^ 64) × (0 + length (bytesLent kind link fcs) ≤ n)))))
   unfolding frameOf
   asks-sdu kind link fcs n h long =
       let small = frame-small f h in
       let k = length-take (f .«block_len») (drop (f .block) b) in
+      let short = sdu .short in
       let up = small-indication kind (sentUp (frameOf f b) link fcs sduOf) (omega arith) (omega (arith, sdu-long)) in
-      let same = ap length (bytes-are kind link fcs) in
-      let is : length (take (length b - f .pdu) (drop (f .pdu) b)) ≡ length b - f .pdu =
-      ap length (lent b (f .pdu)) ∙ length-drop (f .pdu) b in
-      (omega arith, (inside .parts .blockIn, (omega arith, (omega (arith, inside .parts .bitsIn), (omega arith, omega arith)))))
+      (omega arith, (inside .parts .blockIn, (omega arith, (sdu .inside, (omega (arith, sdu .early), omega arith)))))
 
 -- What was written is what a PDU sends up.
 pub wrote-up :

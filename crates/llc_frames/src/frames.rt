@@ -1,10 +1,10 @@
 // A frame that came in: an acknowledgement for it becomes due, its own finishes a message, and its SDU goes up.
-ghost use Prim.Native.Nat.{ℕ, _+_, _≤_};
+ghost use Prim.Native.Nat.{ℕ, _≤_};
 ghost use mathlib.Core.Path.{_≡_};
 ghost use mathlib.Core.Bool.{true};
 ghost use mathlib.Core.List.{List};
 ghost use lib.ListN.{length};
-ghost use Rattle.bits.specs.Bits.{part};
+ghost use Rattle.bits.specs.Bits.{bits, part};
 ghost use Rattle.questions.specs.Outcome.{accepted};
 ghost use Rattle.tdma_time.specs.Slots.{valid};
 ghost use Rattle.llc_rule.specs.Lists.{all};
@@ -20,11 +20,12 @@ ghost use Rattle.llc_steps.specs.Calls.{ackRoom, fits as fitsTo, finishable, on
 ghost use Rattle.llc_steps.specs.States.{messagesOf, withAcks};
 ghost use Rattle.llc_frames.specs.Answered.{foundAt, answeredAt};
 ghost use Rattle.llc_frames.specs.Numbers.{nsIn, nrIn, dueTo};
-ghost use Rattle.llc_frames.specs.Upward.{sentUp};
+ghost use Rattle.llc_frames.specs.Upward.{sentUp, SduLent};
 use crate::reading::Reading;
 use crate::reading::read;
 use llc_calls::FrameCall;
 use llc_pdus::Pdu;
+use llc_pdus::sdu_bytes;
 use llc_queues::expected_ack_for_ssi;
 use llc_queues::push_front_expected_ack;
 use llc_queues::schedule_outgoing_ack;
@@ -91,7 +92,7 @@ fn slot_before(time: TdmaTime) -> u8
     }
 }
 
-// One record that goes up, from the front of the output on: its SDU is len bits of the frame's PDU from bit first on.
+// One record that goes up, from the front of the output on: its SDU is len bits from a place of the part that holds it.
 fn put_sdu(
     out: &mut [u8],
     f: FrameCall,
@@ -99,16 +100,16 @@ fn put_sdu(
     kind: u8,
     link: u32,
     has_fcs: bool,
-    first: usize,
+    sdu: &[u8],
+    place: usize,
     len: usize,
 ) -> usize
     requires { ⌜ 46656 ≤ length (now out) ⌝ }
     requires { ⌜ frameRange f ≡ true ⌝ }
     requires { ⌜ FrameInside f (now bytes) ⌝ }
-    requires { ⌜ first + len ≤ f .«pdu_len» ⌝ }
-    ensures { λ r. ⌜ Wrote (now (out .entry)) 0 (indicationBytes kind (sentUp (frameOf f (now (bytes .entry))) link «has_fcs» (part (frameOf f (now (bytes .entry)) .pdu) first len))) (now (out .exit)) r ⌝ }
+    requires { ⌜ SduLent (now sdu) place len ⌝ }
+    ensures { λ r. ⌜ Wrote (now (out .entry)) 0 (indicationBytes kind (sentUp (frameOf f (now (bytes .entry))) link «has_fcs» (part (bits (now (sdu .entry))) place len))) (now (out .exit)) r ⌝ }
 {
-    let at = f.pdu;
     let s = IndicationRecord {
         ssi: f.ssi,
         ssi_type: f.ssi_type,
@@ -124,8 +125,8 @@ fn put_sdu(
         bytes,
         f.block,
         f.block_len,
-        &bytes[at..],
-        first,
+        sdu,
+        place,
         len,
     )
 }
@@ -137,28 +138,31 @@ fn put_upward(
     f: FrameCall,
     bytes: &[u8],
     pdu: Pdu,
-    first: usize,
+    sdu: &[u8],
+    place: usize,
     len: usize,
 ) -> usize
     requires { ⌜ 46656 ≤ length (now out) ⌝ }
     requires { ⌜ frameRange f ≡ true ⌝ }
     requires { ⌜ FrameInside f (now bytes) ⌝ }
-    requires { ⌜ first + len ≤ f .«pdu_len» ⌝ }
-    ensures { λ r. ⌜ Wrote (now (out .entry)) 0 (allBytes (upward (frameOf f (now (bytes .entry))) pdu (part (frameOf f (now (bytes .entry)) .pdu) first len))) (now (out .exit)) r ⌝ }
+    requires { ⌜ SduLent (now sdu) place len ⌝ }
+    ensures { λ r. ⌜ Wrote (now (out .entry)) 0 (allBytes (upward (frameOf f (now (bytes .entry))) pdu (part (bits (now (sdu .entry))) place len))) (now (out .exit)) r ⌝ }
 {
     match pdu {
         Pdu::BlAdata {
             has_fcs,
             nr: _,
             ns: _,
-        } => put_sdu(out, f, bytes, 4, f.link, has_fcs, first, len),
-        Pdu::BlData { has_fcs, ns: _ } => put_sdu(out, f, bytes, 4, f.link, has_fcs, first, len),
-        Pdu::BlUdata { has_fcs } => put_sdu(out, f, bytes, 5, 0, has_fcs, first, len),
+        } => put_sdu(out, f, bytes, 4, f.link, has_fcs, sdu, place, len),
+        Pdu::BlData { has_fcs, ns: _ } => {
+            put_sdu(out, f, bytes, 4, f.link, has_fcs, sdu, place, len)
+        }
+        Pdu::BlUdata { has_fcs } => put_sdu(out, f, bytes, 5, 0, has_fcs, sdu, place, len),
         Pdu::BlAck { has_fcs, nr: _ } => {
             if len == 0 {
                 return 0;
             }
-            put_sdu(out, f, bytes, 4, 0, has_fcs, first, len)
+            put_sdu(out, f, bytes, 4, 0, has_fcs, sdu, place, len)
         }
     }
 }
@@ -224,41 +228,42 @@ fn acknowledge(state: State, f: FrameCall, numbers: SeqNumbers) -> State
     schedule_outgoing_ack(state, ack)
 }
 
-// A frame that was read: its PDU, and the first bit and the length of its SDU.
+// A frame that was read: its PDU, and the part that holds its SDU, with the place of its first bit there and its length.
 fn rx_tma_unitdata_ind_bl(
     state: State,
     out: &mut [u8],
     f: FrameCall,
     bytes: &[u8],
     pdu: Pdu,
-    first: usize,
+    sdu: &[u8],
+    place: usize,
     len: usize,
 ) -> Answer
     requires { ⌜ inRange state ≡ true ⌝ }
     requires { ⌜ 46656 ≤ length (now out) ⌝ }
     requires { ⌜ frameRange f ≡ true ⌝ }
     requires { ⌜ FrameInside f (now bytes) ⌝ }
-    requires { ⌜ first + len ≤ f .«pdu_len» ⌝ }
-    ensures { λ r. ⌜ WithAnyStore r (now (out .exit)) state (now (out .entry)) (λ (store : List ℕ). onReceived (frameOf f (now (bytes .entry))) (accepted (record { header = pdu; sdu = part (frameOf f (now (bytes .entry)) .pdu) first len })) state store) ⌝ }
+    requires { ⌜ SduLent (now sdu) place len ⌝ }
+    ensures { λ r. ⌜ WithAnyStore r (now (out .exit)) state (now (out .entry)) (λ (store : List ℕ). onReceived (frameOf f (now (bytes .entry))) (accepted (record { header = pdu; sdu = part (bits (now (sdu .entry))) place len })) state store) ⌝ }
 {
     let numbers = seq_numbers(pdu);
     if numbers.has_ns & (64 <= state.n_acks) {
         return Answer::refused(13, state);
     }
     if !numbers.has_nr {
-        let n = put_upward(out, f, bytes, pdu, first, len);
+        let n = put_upward(out, f, bytes, pdu, sdu, place, len);
         return Answer::accepted(acknowledge(state, f, numbers), n);
     }
     let i = expected_ack_for_ssi(state, f.ssi, f.carrier);
     if !may_finish(state, i, numbers.nr) {
         return Answer::refused(14, state);
     }
-    let n = put_upward(out, f, bytes, pdu, first, len);
+    let n = put_upward(out, f, bytes, pdu, sdu, place, len);
     let next = acknowledge(state, f, numbers);
     Answer::accepted(process_incoming_ack(next, i, numbers.nr), n)
 }
 
-/// A frame.
+/// A frame: what goes up of it is taken from the part that the reader hands back.
 pub fn rx_tma_unitdata_ind(state: State, out: &mut [u8], f: FrameCall, bytes: &[u8]) -> Answer
     requires { ⌜ inRange state ≡ true ⌝ }
     requires { ⌜ 46656 ≤ length (now out) ⌝ }
@@ -267,9 +272,15 @@ pub fn rx_tma_unitdata_ind(state: State, out: &mut [u8], f: FrameCall, bytes: &[
     ensures { λ r. ⌜ WithAnyStore r (now (out .exit)) state (now (out .entry)) (λ (store : List ℕ). onReceived (frameOf f (now (bytes .entry))) (received (frameOf f (now (bytes .entry)) .pdu)) state store) ⌝ }
 {
     let at = f.pdu;
-    match read(&bytes[at..], f.pdu_len) {
-        Reading::Frame(pdu, first, len) => {
-            rx_tma_unitdata_ind_bl(state, out, f, bytes, pdu, first, len)
+    let frame = &bytes[at..];
+    match read(frame, f.pdu_len) {
+        Reading::Frame(pdu, sdu) => {
+            let mut number = 0;
+            let part = sdu_bytes(frame, sdu, &mut number);
+            if number != 0 {
+                return Answer::refused(number, state);
+            }
+            rx_tma_unitdata_ind_bl(state, out, f, bytes, pdu, part, sdu.place, sdu.len)
         }
         Reading::Refused(number) => Answer::refused(number, state),
     }

@@ -10,13 +10,14 @@ use fcs::Checked;
 use fcs::check_fcs;
 use llc_pdus::Pdu;
 use llc_pdus::Read;
+use llc_pdus::Sdu;
 use llc_pdus::from_bitbuf;
-use llc_pdus::sdu_bytes;
+use llc_pdus::header_end;
 
 // What reading a frame gives.
 pub(crate) enum Reading {
-    // A PDU, and the first bit and the length of its SDU.
-    Frame(Pdu, usize, usize),
+    // A PDU, and where the SDU that goes up lies.
+    Frame(Pdu, Sdu),
     // The number of the first question failed.
     Refused(u8),
 }
@@ -37,7 +38,8 @@ pub(crate) fn has_fcs(pdu: Pdu) -> bool
     }
 }
 
-// The PDU of the first bits of the lent bytes, and where its SDU lies; the check runs over the part that holds the SDU.
+// The PDU of the first bits of the lent bytes, and where its SDU lies. The check is lent the bytes from the header's last byte
+// onwards, and runs over all bits behind the header.
 pub(crate) fn read(frame: &[u8], len: usize) -> Reading
     requires { ⌜ len ≤ 8 * length (now frame) ⌝ }
     ensures { λ r. ⌜ readingOf r (take len (bits (now (frame .entry)))) ≡ received (take len (bits (now (frame .entry)))) ⌝ }
@@ -46,13 +48,14 @@ pub(crate) fn read(frame: &[u8], len: usize) -> Reading
     match from_bitbuf(frame, len) {
         Read::Frame(pdu, sdu) => {
             if !has_fcs(pdu) {
-                return Reading::Frame(pdu, sdu.first, sdu.len);
+                return Reading::Frame(pdu, sdu);
             }
-            let part = sdu_bytes(frame, sdu);
-            match check_fcs(part, sdu.place, sdu.len) {
-                Checked::Right => Reading::Frame(pdu, sdu.first, sdu.len),
+            let end = header_end(pdu);
+            let k = end.byte;
+            match check_fcs(&frame[k..], end.bits, sdu.len) {
+                Checked::Right => Reading::Frame(pdu, sdu),
                 Checked::Wrong => Reading::Refused(12),
-                Checked::OutOfRange => Reading::Refused(12),
+                Checked::OutOfRange => Reading::Refused(5),
             }
         }
         Read::TooShort => Reading::Refused(9),

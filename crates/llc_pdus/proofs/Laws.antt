@@ -1,5 +1,5 @@
 -- The laws of PDUs, for callers: what is written reads back, and what is read was written so.
-use Prim.Native.Nat.{ℕ, zero, suc, _≤_, _<_}
+use Prim.Native.Nat.{ℕ, zero, suc, _+_, _*_, _≤_, _<_}
 use native.Mathlib.Omega.{arith}
 use mathlib.Core.Path.{_≡_, refl, sym}
 use mathlib.Core.Bool.{Bool, true, false, not, false≢true}
@@ -11,18 +11,29 @@ use Rattle.bits.specs.Bits.{AllBits, value}
 use Rattle.questions.specs.Outcome.{accepted}
 use Rattle.questions.proofs.Asked.{accepted-passed}
 use Rattle.llc_pdus.specs.Headers.{bit, header, lengthOf, one, Reading, kindAt, readingOf, reading}
+use Rattle.llc_pdus.specs.Sdus.{headerEnd}
 use Rattle.llc_pdus.specs.Types.{raw, fromRaw, firstBits, typeOf}
 use Rattle.llc_pdus.specs.declared.Pdu.{Pdu}
 use Rattle.llc_pdus.specs.declared.Pdu.the-variants.{BlAdata, BlData, BlUdata, BlAck}
 use Rattle.llc_pdus.specs.declared.llc_pdu_type.LlcPduType.{LlcPduType}
 use Rattle.llc_pdus.specs.declared.llc_pdu_type.LlcPduType.the-variants as Types
 
--- A header has at most six bits.
+-- A header has at least four bits, and at most six.
+pub header-long : (p : Pdu) → 4 ≤ length (header p)
+header-long (BlAdata fcs nr ns) = omega arith
+header-long (BlData fcs ns) = omega arith
+header-long (BlUdata fcs) = omega arith
+header-long (BlAck fcs nr) = omega arith
+
 pub header-short : (p : Pdu) → length (header p) ≤ 6
 header-short (BlAdata fcs nr ns) = omega arith
 header-short (BlData fcs ns) = omega arith
 header-short (BlUdata fcs) = omega arith
 header-short (BlAck fcs nr) = omega arith
+
+-- The bits of the bytes before the one that it ends in, and its bits there, are all its bits.
+pub header-ends : (p : Pdu) → 8 * headerEnd p .byte + headerEnd p .bits ≡ length (header p)
+header-ends p = omega (arith, header-long p)
 
 -- Each type is the one with its number.
 pub from-raw : (t : LlcPduType) → fromRaw (raw t) ≡ accepted t

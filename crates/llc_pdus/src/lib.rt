@@ -6,6 +6,7 @@ mod writing;
 pub use llc_pdu_type::LlcPduType;
 pub use llc_pdu_type::TypeOf;
 pub use reading::from_bitbuf;
+pub use reading::header_end;
 pub use reading::sdu_bytes;
 pub use writing::N251_BL_MAX_TLSDU_LEN_BITS;
 pub use writing::to_bitbuf;
@@ -30,6 +31,14 @@ pub struct Sdu {
     pub len: usize,
     /// Its first bit's place in the bytes that hold it; 0 if it is empty.
     pub place: usize,
+}
+
+/// Where the header of a frame ends.
+pub struct HeaderEnd {
+    /// The byte that holds its last bit.
+    pub byte: usize,
+    /// How many bits of that byte are the header's.
+    pub bits: usize,
 }
 
 /// What reading a frame gives.

@@ -4,7 +4,8 @@ ghost use lib.ListN.{length};
 ghost use Rattle.bits.specs.Bits.{toBits, bits};
 ghost use Rattle.llc_pdus.specs.Answers.{answered, readFrom};
 ghost use Rattle.llc_pdus.specs.Headers.{header, readingOf};
-ghost use Rattle.llc_pdus.specs.Sdus.{sduAt, holding};
+ghost use Rattle.llc_pdus.specs.Sdus.{sduAt, handed, numbered, handedBack, headerEnd};
+use crate::HeaderEnd;
 use crate::Pdu;
 use crate::Read;
 use crate::Sdu;
@@ -71,6 +72,17 @@ pub(crate) fn header_len(pdu: Pdu) -> usize
     }
 }
 
+/// Where the header of a PDU ends in its frame: the bits behind it are lent from that byte on.
+pub fn header_end(pdu: Pdu) -> HeaderEnd
+    ensures { λ r. ⌜ r ≡ headerEnd pdu ⌝ }
+{
+    let last = header_len(pdu) - 1;
+    HeaderEnd {
+        byte: last / 8,
+        bits: last % 8 + 1,
+    }
+}
+
 // An SDU from a place of the frame on.
 fn sdu_at(first: usize, len: usize) -> Sdu
     ensures { λ r. ⌜ r ≡ sduAt first len ⌝ }
@@ -89,16 +101,19 @@ fn sdu_at(first: usize, len: usize) -> Sdu
     }
 }
 
-/// The bytes of a frame that hold an SDU, from its first to its last; none for an empty one.
-pub fn sdu_bytes(frame: &[u8], sdu: Sdu) -> &[u8]
-    ensures { λ r. ⌜ now r ≡ holding (now (frame .entry)) (sdu .first) (sdu .len) ⌝ }
+/// The bytes of a frame that hold an SDU, from its first to its last, and the number 0; none for an empty one. For an SDU that
+/// does not lie in the frame the number is 5.
+pub fn sdu_bytes<'a>(frame: &'a [u8], sdu: Sdu, number: &mut u8) -> &'a [u8]
+    ensures { λ r. ⌜ numbered (now (number .exit)) (now r) ≡ handedBack (handed (now (frame .entry)) sdu) ⌝ }
 {
     let a = sdu.first / 8;
     let e = a + sdu.len / 8 + (sdu.first % 8 + sdu.len % 8 + 7) / 8;
-    if sdu.len == 0 {
+    if frame.len() < e {
+        *number = 5;
         return &frame[..0];
     }
-    if frame.len() < e {
+    *number = 0;
+    if sdu.len == 0 {
         return &frame[..0];
     }
     &frame[a..e]

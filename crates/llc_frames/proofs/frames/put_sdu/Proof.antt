@@ -4,20 +4,11 @@ use borrow.Author.Needs.{needs}
 use Rattle.llc_frames.proofs.frames.put_sdu.Statement.{statement}
 use Rattle.llc_frames.proofs.frames.put_sdu.Tie as tie
 
-sub-put-indication : tie.Need-sub-put-indication
-sub-put-indication c = search needs
-
-part-put-indication-start : tie.Need-part-put-indication-start
-part-put-indication-start c = search needs
-
-part-put-indication-end : tie.Need-part-put-indication-end
-part-put-indication-end c = search needs
-
 put-indication-requires : tie.Need-put-indication-requires
 put-indication-requires c κs =
     let d = c .before .before .before .before in
     let a = d .args in
-    asks-sdu (a .f) (a .bytes .now) (d .pre .1 .1 .0) (a .first) (a .len) (d .pre .1 .1 .1) (a .kind) (a .link) (a .«has-fcs») (length (a .out .now)) (d .pre .1 .0) (d .pre .0)
+    asks-sdu (a .f) (a .bytes .now) (d .pre .1 .1 .0) (a .sdu .now) (a .place) (a .len) (d .pre .1 .1 .1) (a .kind) (a .link) (a .«has-fcs») (length (a .out .now)) (d .pre .1 .0) (d .pre .0)
 
 same-length : tie.Need-same-length
 same-length c = search needs
@@ -26,15 +17,7 @@ returns : tie.Need-returns
 returns c =
     let d = c .before .before .before .before .before .before .before in
     let a = d .args in
-    wrote-sdu (a .f) (a .bytes .now) (d .pre .1 .1 .0) (a .first) (a .len) (d .pre .1 .1 .1) (a .kind) (a .link) (a .«has-fcs») (c .before .before .put-indication .ensures)
+    wrote-sdu (a .f) (a .bytes .now) (d .pre .1 .1 .0) (a .sdu .now) (a .place) (a .len) (d .pre .1 .1 .1) (a .kind) (a .link) (a .«has-fcs») (c .before .before .put-indication .ensures)
 
 pub put-sdu-spec : {M : Type 1} → statement M
-put-sdu-spec =
-    tie.close
-    (tie.spec
-    sub-put-indication
-    part-put-indication-start
-    part-put-indication-end
-    put-indication-requires
-    same-length
-    returns)
+put-sdu-spec = tie.close (tie.spec put-indication-requires same-length returns)

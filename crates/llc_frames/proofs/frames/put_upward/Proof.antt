@@ -1,6 +1,6 @@
 use native.Mathlib.Omega.{arith}
 use mathlib.Core.Path.{_∙_}
-use Rattle.bits.specs.Bits.{part}
+use Rattle.bits.specs.Bits.{bits, part}
 use Rattle.llc_calls.specs.Decoded.{frameOf}
 use Rattle.llc_records.proofs.Wrote.{wrote-none}
 use Rattle.llc_frames.proofs.Upward.{adata-up, data-up, udata-up, ack-up, none-up, sdu-long, wrote-up}
@@ -31,12 +31,12 @@ enum-known-pdu-4 c = search needs
 
 returns : tie.Need-returns
 returns c =
-    let d = c .before .before .before .before .before .before in
+    let d = c .before .before .before .before .before .before .before in
     let a = d .args in
     let g = c .before .before .pdu4 .given in
     let f = frameOf (a .f) (a .bytes .now) in
-    let sdu = part (f .pdu) (a .first) (a .len) in
-    let long = sdu-long (a .f) (a .bytes .now) (d .pre .1 .1 .0) (a .first) (a .len) (d .pre .1 .1 .1) in
+    let sdu = part (bits (a .sdu .now)) (a .place) (a .len) in
+    let long = sdu-long (a .f) (a .bytes .now) (d .pre .1 .1 .0) (a .sdu .now) (a .place) (a .len) (d .pre .1 .1 .1) in
     wrote-up f sdu (g .1) (none-up f sdu (g .0 .0) (g .0 .1 .0) (long ∙ c .if1 .taken)) (wrote-none (a .out .now) 0)
 
 put-sdu-requires-4 : tie.Need-put-sdu-requires-4
@@ -48,10 +48,10 @@ same-length c = search needs
 returns-2 : tie.Need-returns-2
 unfolding frameOf
 returns-2 c =
-    let a = c .before .before .before .before .before .before .before .before .before .args in
+    let a = c .before .before .before .before .before .before .before .before .before .before .args in
     let g = c .before .before .before .before .before .pdu .given in
     let f = frameOf (a .f) (a .bytes .now) in
-    let sdu = part (f .pdu) (a .first) (a .len) in
+    let sdu = part (bits (a .sdu .now)) (a .place) (a .len) in
     wrote-up f sdu (g .1) (adata-up f sdu (g .0 .0) (g .0 .1 .0) (g .0 .1 .1 .0)) (c .before .before .put-sdu .ensures)
 
 same-length-2 : tie.Need-same-length-2
@@ -60,10 +60,10 @@ same-length-2 c = search needs
 returns-3 : tie.Need-returns-3
 unfolding frameOf
 returns-3 c =
-    let a = c .before .before .before .before .before .before .before .before .before .args in
+    let a = c .before .before .before .before .before .before .before .before .before .before .args in
     let g = c .before .before .before .before .before .pdu2 .given in
     let f = frameOf (a .f) (a .bytes .now) in
-    let sdu = part (f .pdu) (a .first) (a .len) in
+    let sdu = part (bits (a .sdu .now)) (a .place) (a .len) in
     wrote-up f sdu (g .1) (data-up f sdu (g .0 .0) (g .0 .1 .0)) (c .before .before .put-sdu2 .ensures)
 
 same-length-3 : tie.Need-same-length-3
@@ -71,10 +71,10 @@ same-length-3 c = search needs
 
 returns-4 : tie.Need-returns-4
 returns-4 c =
-    let a = c .before .before .before .before .before .before .before .before .before .args in
+    let a = c .before .before .before .before .before .before .before .before .before .before .args in
     let g = c .before .before .before .before .before .pdu3 .given in
     let f = frameOf (a .f) (a .bytes .now) in
-    let sdu = part (f .pdu) (a .first) (a .len) in
+    let sdu = part (bits (a .sdu .now)) (a .place) (a .len) in
     wrote-up f sdu (g .1) (udata-up f sdu (g .0 .0)) (c .before .before .put-sdu3 .ensures)
 
 same-length-4 : tie.Need-same-length-4
@@ -82,12 +82,12 @@ same-length-4 c = search needs
 
 returns-5 : tie.Need-returns-5
 returns-5 c =
-    let d = c .before .before .before .before .before .before .before .before .before .before in
+    let d = c .before .before .before .before .before .before .before .before .before .before .before in
     let a = d .args in
     let g = c .before .before .before .before .before .before .pdu4 .given in
     let f = frameOf (a .f) (a .bytes .now) in
-    let sdu = part (f .pdu) (a .first) (a .len) in
-    let long = sdu-long (a .f) (a .bytes .now) (d .pre .1 .1 .0) (a .first) (a .len) (d .pre .1 .1 .1) in
+    let sdu = part (bits (a .sdu .now)) (a .place) (a .len) in
+    let long = sdu-long (a .f) (a .bytes .now) (d .pre .1 .1 .0) (a .sdu .now) (a .place) (a .len) (d .pre .1 .1 .1) in
     wrote-up f sdu (g .1) (ack-up f sdu (g .0 .0) (g .0 .1 .0) (omega (arith, c .before .before .before .before .if1 .left))) (c .before .before .put-sdu4 .ensures)
 
 pub put-upward-spec : {M : Type 1} → statement M

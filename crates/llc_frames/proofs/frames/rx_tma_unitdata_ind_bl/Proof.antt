@@ -17,20 +17,20 @@ refused-requires c κs = search needs
 
 returns : tie.Need-returns
 returns c =
-    let d = c .before .before .before .before .before .before .before in
+    let d = c .before .before .before .before .before .before .before .before in
     let a = d .args in
     let n = c .before .before .before .before .seq-numbers in
-    acks-full (a .state) (a .f) (a .bytes .now) (a .pdu) (a .first) (a .len) (n .result) (n .ensures .0) (n .ensures .1) (a .out .now) (c .before .if1 .taken) (c .refused .ensures)
+    acks-full (a .state) (a .f) (a .bytes .now) (a .pdu) (a .sdu .now) (a .place) (a .len) (n .result) (n .ensures .0) (n .ensures .1) (a .out .now) (c .before .if1 .taken) (c .refused .ensures)
 
 put-upward-requires : tie.Need-put-upward-requires
 put-upward-requires c κs = search needs
 
 acknowledge-requires : tie.Need-acknowledge-requires
 acknowledge-requires c κs =
-    let d = c .before .before .before .before .before .before .before .before .before .before .before .before in
+    let d = c .before .before .before .before .before .before .before .before .before .before .before .before .before in
     let a = d .args in
     let n = c .before .before .before .before .before .before .before .before .before .seq-numbers in
-    (d .pre .0, has-room (a .state) (a .f) (a .bytes .now) (a .pdu) (a .first) (a .len) (n .result) (n .ensures .0) (n .ensures .1) (c .before .before .before .before .before .before .if1 .left))
+    (d .pre .0, has-room (a .state) (a .f) (a .bytes .now) (a .pdu) (a .sdu .now) (a .place) (a .len) (n .result) (n .ensures .0) (n .ensures .1) (c .before .before .before .before .before .before .if1 .left))
 
 accepted-requires : tie.Need-accepted-requires
 accepted-requires c κs = search needs
@@ -40,10 +40,10 @@ same-length c = search needs
 
 returns-2 : tie.Need-returns-2
 returns-2 c =
-    let d = c .before .before .before .before .before .before .before .before .before .before .before .before .before .before in
+    let d = c .before .before .before .before .before .before .before .before .before .before .before .before .before .before .before in
     let a = d .args in
     let n = c .before .before .before .before .before .before .before .before .before .before .before .seq-numbers in
-    no-nr (a .state) (a .f) (a .bytes .now) (a .pdu) (a .first) (a .len) (n .result) (n .ensures .0) (n .ensures .1)
+    no-nr (a .state) (a .f) (a .bytes .now) (a .pdu) (a .sdu .now) (a .place) (a .len) (n .result) (n .ensures .0) (n .ensures .1)
     (counts (a .state) (d .pre .0) (lengths (a .state) (d .good .0)))
     (c .before .before .before .before .before .before .before .before .if1 .left)
     (not-true (n .result .«has_nr») (c .before .before .before .before .before .before .if2 .taken))
@@ -56,7 +56,7 @@ returns-2 c =
 
 expected-ack-for-ssi-requires : tie.Need-expected-ack-for-ssi-requires
 expected-ack-for-ssi-requires c κs =
-    let d = c .before .before .before .before .before .before .before .before in
+    let d = c .before .before .before .before .before .before .before .before .before in
     range-tells (d .args .state) (d .pre .0) .head .messages
 
 may-finish-requires : tie.Need-may-finish-requires
@@ -67,10 +67,10 @@ refused-requires-2 c κs = search needs
 
 returns-3 : tie.Need-returns-3
 returns-3 c =
-    let d = c .before .before .before .before .before .before .before .before .before .before .before .before in
+    let d = c .before .before .before .before .before .before .before .before .before .before .before .before .before in
     let a = d .args in
     let n = c .before .before .before .before .before .before .before .before .before .seq-numbers in
-    not-finishable (a .state) (a .f) (a .bytes .now) (a .pdu) (a .first) (a .len) (n .result) (n .ensures .0) (n .ensures .1)
+    not-finishable (a .state) (a .f) (a .bytes .now) (a .pdu) (a .sdu .now) (a .place) (a .len) (n .result) (n .ensures .0) (n .ensures .1)
     (c .before .before .before .expected-ack-for-ssi .ensures)
     (not-false (n .result .«has_nr») (c .before .before .before .before .if2 .left))
     (a .out .now)
@@ -83,14 +83,14 @@ put-upward-requires-2 c κs = search needs
 
 acknowledge-requires-2 : tie.Need-acknowledge-requires-2
 acknowledge-requires-2 c κs =
-    let d = c .before .before .before .before .before .before .before .before .before .before .before .before .before .before .before in
+    let d = c .before .before .before .before .before .before .before .before .before .before .before .before .before .before .before .before in
     let a = d .args in
     let n = c .before .before .before .before .before .before .before .before .before .before .before .before .seq-numbers in
-    (d .pre .0, has-room (a .state) (a .f) (a .bytes .now) (a .pdu) (a .first) (a .len) (n .result) (n .ensures .0) (n .ensures .1) (c .before .before .before .before .before .before .before .before .before .if1 .left))
+    (d .pre .0, has-room (a .state) (a .f) (a .bytes .now) (a .pdu) (a .sdu .now) (a .place) (a .len) (n .result) (n .ensures .0) (n .ensures .1) (c .before .before .before .before .before .before .before .before .before .if1 .left))
 
 process-incoming-ack-requires : tie.Need-process-incoming-ack-requires
 process-incoming-ack-requires c κs =
-    let d = c .before .before .before .before .before .before .before .before .before .before .before .before .before .before .before .before in
+    let d = c .before .before .before .before .before .before .before .before .before .before .before .before .before .before .before .before .before in
     same-queue (d .args .state) (d .args .f) (c .before .before .before .before .before .before .before .before .before .before .before .before .before .seq-numbers .result) (c .acknowledge2 .ensures) (d .pre .0)
 
 accepted-requires-2 : tie.Need-accepted-requires-2
@@ -101,10 +101,10 @@ same-length-2 c = search needs
 
 returns-4 : tie.Need-returns-4
 returns-4 c =
-    let d = c .before .before .before .before .before .before .before .before .before .before .before .before .before .before .before .before .before .before in
+    let d = c .before .before .before .before .before .before .before .before .before .before .before .before .before .before .before .before .before .before .before in
     let a = d .args in
     let n = c .before .before .before .before .before .before .before .before .before .before .before .before .before .before .before .seq-numbers in
-    with-nr (a .state) (a .f) (a .bytes .now) (a .pdu) (a .first) (a .len) (n .result) (n .ensures .0) (n .ensures .1)
+    with-nr (a .state) (a .f) (a .bytes .now) (a .pdu) (a .sdu .now) (a .place) (a .len) (n .result) (n .ensures .0) (n .ensures .1)
     (c .before .before .before .before .before .before .before .before .before .expected-ack-for-ssi .ensures)
     (not-false (n .result .«has_nr») (c .before .before .before .before .before .before .before .before .before .before .if2 .left))
     (counts (a .state) (d .pre .0) (lengths (a .state) (d .good .0)))

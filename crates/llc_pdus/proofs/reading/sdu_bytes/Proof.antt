@@ -1,6 +1,6 @@
 use native.Mathlib.Omega.{arith}
 use borrow.Author.Needs.{needs}
-use Rattle.llc_pdus.proofs.Holding.{none, outside, held}
+use Rattle.llc_pdus.proofs.Holding.{outside, none, held}
 use Rattle.llc_pdus.proofs.reading.sdu_bytes.Statement.{statement}
 use Rattle.llc_pdus.proofs.reading.sdu_bytes.Tie as tie
 
@@ -21,8 +21,8 @@ slice-aggregate-result c = search needs
 
 returns : tie.Need-returns
 returns c =
-    let a = c .before .before .before .before .before .before .before .args in
-    none (a .frame .now) (a .sdu .first) (a .sdu .len) (c .before .if1 .taken)
+    let a = c .before .before .before .before .before .before .args in
+    outside (a .frame .now) (a .sdu) (c .before .if1 .taken)
 
 slice-aggregate-result-2 : tie.Need-slice-aggregate-result-2
 slice-aggregate-result-2 c = search needs
@@ -30,7 +30,7 @@ slice-aggregate-result-2 c = search needs
 returns-2 : tie.Need-returns-2
 returns-2 c =
     let a = c .before .before .before .before .before .before .before .before .args in
-    outside (a .frame .now) (a .sdu .first) (a .sdu .len) (c .before .if2 .taken)
+    none (a .frame .now) (a .sdu) (c .before .before .before .if1 .left) (c .before .if2 .taken)
 
 sub-result : tie.Need-sub-result
 sub-result c = search needs
@@ -44,7 +44,7 @@ part-result-end c = search needs
 returns-3 : tie.Need-returns-3
 returns-3 c =
     let a = c .before .before .before .before .before .before .before .before .args in
-    held (a .frame .now) (a .sdu .first) (a .sdu .len) (omega (arith, c .before .before .if1 .left)) (c .before .if2 .left)
+    held (a .frame .now) (a .sdu) (c .before .before .before .if1 .left) (omega (arith, c .before .if2 .left))
 
 pub sdu-bytes-spec : {M : Type 1} → statement M
 sdu-bytes-spec =
