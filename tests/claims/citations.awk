@@ -210,7 +210,7 @@ kind == "rt" && /^}/ { type = "" }
 kind == "rt" && /^ *(pub(\([a-z]+\))? )?(extern "C" )?fn / {
     of_function = $0
     sub(/^.*fn /, "", of_function)
-    sub(/\(.*/, "", of_function)
+    sub(/[(<].*/, "", of_function)
 }
 kind == "rt" && of_function != "" && /^ *ensures / {
     prefix = type != "" ? type : module
