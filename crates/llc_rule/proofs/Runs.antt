@@ -5,6 +5,10 @@ pub mod Edges
 pub mod Course
 pub mod Awkward
 pub mod Marks
+pub mod Widths
+pub mod Ranges
+pub mod Orders
+pub mod Checks
 use Prim.Native.Nat.{ℕ, zero, suc}
 use mathlib.Core.Bool.{Bool, true, false, _&&_}
 use mathlib.Core.List.{List, [], _∷_, _++_, map}
