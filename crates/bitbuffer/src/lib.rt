@@ -15,6 +15,7 @@ ghost use Rattle.bitbuffer.specs.Steps.{ahead as aheadOf, back as backOf
 ghost use Rattle.bitbuffer.specs.Answers.{windowed, counted};
 
 /// A window over lent bits.
+#[repr(C)]
 pub struct BitBuffer {
     /// Bits before this are out of the window.
     pub start: usize,
@@ -72,6 +73,7 @@ pub enum Written {
 const LAST: usize = 18_446_744_073_709_551_615;
 
 /// The two windows of a copy, moved past the bits that were copied.
+#[repr(C)]
 pub struct Windows {
     /// The window that was written.
     pub to: BitBuffer,

@@ -1,1 +1,5 @@
+pub mod Frames
 pub mod Numbers
+pub mod Receipts
+pub mod Times
+pub mod Windows

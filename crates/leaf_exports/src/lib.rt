@@ -1,4 +1,12 @@
 // The leaves for a program in another language, to compare and to measure them there.
+mod answers;
+mod frames;
+mod reads;
+mod receipts;
+mod times;
+mod windows;
+mod writes;
+
 ghost use mathlib.Core.Bool.{false};
 ghost use mathlib.Core.Path.{_≡_};
 ghost use Rattle.bits.specs.Bits.{bits};
