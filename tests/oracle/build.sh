@@ -37,3 +37,8 @@ build_oracle() {
     build wipturay rlib bindings/rust/src/lib.rs -L target/staticlib -l static=llc_exports || return
     build oracle rlib tests/oracle/src/lib.rs
 }
+
+# The comparison of the leaves, over their archive, with the Rust that is built before it.
+build_leaves() {
+    build_archive leaf_exports && build leaves bin tests/oracle/src/leaves/main.rs -L target/staticlib -l static=leaf_exports
+}

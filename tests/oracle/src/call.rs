@@ -1,4 +1,5 @@
 //! Calls: what document 01's bytes say, and the bytes of a call.
+use crate::faults;
 
 /// A data request or a unitdata request.
 #[derive(Clone)]
@@ -101,10 +102,12 @@ impl Call {
         if outer.rest.len() != len as usize {
             return Err(2);
         }
+        let tag = faults::tag(tag);
         if !(0x21..=0x28).contains(&tag) {
             return Err(3);
         }
-        let mut inner = Taker { rest: outer.rest };
+        let value = faults::value(tag, outer.rest);
+        let mut inner = Taker { rest: &value };
         match Call::value(tag, &mut inner) {
             Some(call) if inner.rest.is_empty() => Ok(call),
             _ => Err(2),

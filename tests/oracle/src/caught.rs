@@ -19,8 +19,8 @@ pub fn silence() {
 
 /// What `f` gives; nothing, if it panics.
 pub fn caught<T>(f: impl FnOnce() -> T) -> Option<T> {
-    IS_QUIET.set(true);
+    let was_quiet = IS_QUIET.replace(true);
     let result = catch_unwind(AssertUnwindSafe(f)).ok();
-    IS_QUIET.set(false);
+    IS_QUIET.set(was_quiet);
     result
 }

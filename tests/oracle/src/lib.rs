@@ -7,6 +7,8 @@ pub mod check_sequence;
 pub mod compare;
 pub mod comparison;
 pub mod coverage;
+pub mod faults;
+pub mod full_width;
 pub mod generator;
 pub mod header;
 pub mod held;

@@ -1,11 +1,11 @@
 //! Compares the proved engine with the Rust's link on the same calls.
 use oracle::comparison::Comparison;
 use oracle::subject::Subject;
-use oracle::{caught, store};
+use oracle::{caught, faults, store};
 use std::path::Path;
 
 /// How it is called.
-const USAGE: &str = "oracle answers FILE | store | all SECONDS SEED LENGTH SUBJECT... | seed SEED SUBJECT... | \
+const USAGE: &str = "oracle answers FILE | faults FILE | store | all SECONDS SEED LENGTH SUBJECT... | seed SEED SUBJECT... | \
                      short LENGTH SUBJECT... | file FILE SUBJECT...; a SUBJECT is `link`, or the path of a runner";
 
 fn main() {
@@ -16,6 +16,7 @@ fn main() {
     let compare = |words: &[&str]| Comparison::new(words.iter().map(|word| Subject::named(word)).collect());
     match args[..] {
         ["answers", file] => store::print_answers(Path::new(file)),
+        ["faults", file] => faults::print_told(Path::new(file)),
         ["store"] => store::print_lines(),
         ["all", seconds, seed, length, ref subjects @ ..] if !subjects.is_empty() => {
             let mut comparison = compare(subjects);

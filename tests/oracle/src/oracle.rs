@@ -2,6 +2,7 @@
 use crate::call::Call;
 use crate::caught::caught;
 use crate::coverage::Coverage;
+use crate::faults;
 use crate::hex_line;
 use crate::message;
 use crate::record;
@@ -180,7 +181,10 @@ impl Oracle {
                 self.receipts.iter().position(is_it).map(|at| at as u8)
             };
             match record::of(&given, receipt_of) {
-                Ok(record) => answer.records.push(record),
+                Ok(mut record) => {
+                    faults::spoil(&mut record, call);
+                    answer.records.push(record);
+                }
                 Err(what) => answer.fault = Some(what),
             }
         }

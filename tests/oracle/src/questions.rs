@@ -1,6 +1,7 @@
 //! Document 01's questions 4 to 16, read plainly. What they are put to is the Rust's own queues and receipts.
 use crate::call::{Call, Frame, Request};
 use crate::caught::caught;
+use crate::faults::{self, Fault};
 use crate::header::{self, Header};
 use crate::message;
 use crate::oracle::{DUE, MESSAGES, Oracle, RECEIPTS, ROWS, Started, UNACKNOWLEDGED, is_on, is_under_way, mark};
@@ -27,16 +28,16 @@ impl Oracle {
         }
         match call {
             Call::Start { .. } | Call::TickStart { .. } | Call::TickEnd => 0,
-            Call::Data(request) => self.request_number(request, request.kind == 1 && request.flags & 1 == 0),
-            Call::Unitdata(request) => self.request_number(request, false),
+            Call::Data(request) => self.request_number(0x24, request, request.kind == 1 && request.flags & 1 == 0),
+            Call::Unitdata(request) => self.request_number(0x25, request, false),
             Call::Frame(frame) => self.frame_number(frame, fault),
             Call::Report { receipt, value } => self.report_number(*receipt, *value, fault),
             Call::Release { receipt } => self.release_number(*receipt),
         }
     }
 
-    /// Questions 6 to 8.
-    fn request_number(&mut self, request: &Request, is_acknowledged: bool) -> u8 {
+    /// Questions 6 to 8, in this order.
+    fn request_number(&mut self, tag: u8, request: &Request, is_acknowledged: bool) -> u8 {
         let Some(started) = &self.link else {
             return 4;
         };
@@ -45,24 +46,24 @@ impl Oracle {
         } else {
             started.llc.unacknowledged().len() >= UNACKNOWLEDGED
         };
-        if self.receipts[request.receipt as usize].is_some() {
-            if is_full {
-                self.coverage.count("6 with a full queue");
-            }
-            return 6;
-        }
+        let is_taken = self.receipts[request.receipt as usize].is_some();
         let rows = started.llc.rows();
-        if is_acknowledged && !rows.contains_key(&request.ssi) && rows.len() >= ROWS {
-            if is_full {
-                self.coverage.count("7 with 64 messages");
-            }
-            return 7;
+        let is_rowless = is_acknowledged && !rows.contains_key(&request.ssi) && rows.len() >= ROWS;
+        let first = match faults::asked_first(tag) {
+            Some(7) if is_rowless => 7,
+            Some(8) if is_full => 8,
+            _ if is_taken => 6,
+            _ if is_rowless => 7,
+            _ if is_full => 8,
+            _ => 0,
+        };
+        match first {
+            6 if is_full => self.coverage.count("6 with a full queue"),
+            7 if is_full => self.coverage.count("7 with 64 messages"),
+            8 => self.coverage.count(if is_acknowledged { "8 with 64 messages" } else { "8 with 32 messages" }),
+            _ => {}
         }
-        if is_full {
-            self.coverage.count(if is_acknowledged { "8 with 64 messages" } else { "8 with 32 messages" });
-            return 8;
-        }
-        0
+        first
     }
 
     /// Questions 9 to 14. The Rust has to return silently for 9 to 12, and to panic half way for 14.
@@ -70,6 +71,9 @@ impl Oracle {
         let Some(started) = &mut self.link else {
             return 4;
         };
+        if faults::is(Fault::ThirteenFirst) && started.llc.due().len() >= DUE {
+            return 13;
+        }
         let header = match header::read(&frame.bits, frame.bit_count as usize) {
             Ok(header) => header,
             Err(number) => {
@@ -88,7 +92,7 @@ impl Oracle {
         };
         let is_wrong = |m: &ExpectedInAck| m.tx_reporter.get_state() != TxState::Transmitted;
         let is_panic = finished_by(started, frame, &header).is_some_and(is_wrong);
-        if header.ns.is_some() && started.llc.due().len() >= DUE {
+        if header.ns.is_some() && started.llc.due().len() >= DUE && !(is_panic && faults::is(Fault::FourteenFirst)) {
             if is_panic {
                 self.coverage.count("13 where N(R) meets a discarded message");
             }
@@ -162,25 +166,39 @@ fn finished_by<'a>(started: &'a Started, frame: &Frame, header: &Header) -> Opti
     (message.carrier_num == frame.carrier && message.t_umac_done.is_some() && message.ns == nr).then_some(message)
 }
 
-/// Question 5.
+/// Question 5, part by part.
 fn in_range(call: &Call) -> bool {
+    let holds = |tag: u8, part: &'static str, holds: bool| holds || faults::is(Fault::NotAsked(tag, part));
+    let is_request = |tag: u8, r: &Request| {
+        let flags = [(8, "flag 8"), (16, "flag 16"), (32, "flag 32"), (64, "flag 64"), (128, "flag 128")];
+        holds(tag, "type", (1..=2).contains(&r.kind))
+            && holds(tag, "carrier given", r.carrier_given < 2)
+            && flags.iter().all(|(flag, name)| holds(tag, name, r.flags & flag == 0))
+            && holds(tag, "receipt", (r.receipt as usize) < RECEIPTS)
+            && holds(tag, "mask under 16", r.mask < 16)
+            && holds(tag, "mask with flag 4", r.mask == 0 || r.flags & 4 != 0)
+            && holds(tag, "carrier 0", r.carrier == 0 || r.carrier_given == 1)
+            && holds(tag, "block", r.block.len() <= 64)
+            && holds(tag, "SDU", r.bit_count <= 2595)
+    };
     match call {
-        Call::Start { t251, .. } => *t251 != 0,
-        Call::TickStart { m, f, t, .. } => (1..=60).contains(m) && (1..=18).contains(f) && (1..=4).contains(t),
-        Call::TickEnd => true,
-        Call::Data(r) | Call::Unitdata(r) => {
-            (1..=2).contains(&r.kind)
-                && r.carrier_given < 2
-                && r.flags < 8
-                && (r.receipt as usize) < RECEIPTS
-                && r.mask < 16
-                && (r.mask == 0 || r.flags & 4 != 0)
-                && (r.carrier == 0 || r.carrier_given == 1)
-                && r.block.len() <= 64
-                && r.bit_count <= 2595
+        Call::Start { t251, .. } => holds(0x21, "T251", *t251 != 0),
+        Call::TickStart { m, f, t, .. } => {
+            holds(0x22, "m", (1..=60).contains(m))
+                && holds(0x22, "f", (1..=18).contains(f))
+                && holds(0x22, "t", (1..=4).contains(t))
         }
-        Call::Frame(f) => (1..=2).contains(&f.kind) && f.block.len() <= 64 && f.bit_count <= 2633,
-        Call::Report { receipt, value } => (*receipt as usize) < RECEIPTS && (1..=2).contains(value),
-        Call::Release { receipt } => (*receipt as usize) < RECEIPTS,
+        Call::TickEnd => true,
+        Call::Data(r) => is_request(0x24, r),
+        Call::Unitdata(r) => is_request(0x25, r),
+        Call::Frame(f) => {
+            holds(0x26, "type", (1..=2).contains(&f.kind))
+                && holds(0x26, "block", f.block.len() <= 64)
+                && holds(0x26, "frame", f.bit_count <= 2633)
+        }
+        Call::Report { receipt, value } => {
+            holds(0x27, "receipt", (*receipt as usize) < RECEIPTS) && holds(0x27, "report", (1..=2).contains(value))
+        }
+        Call::Release { receipt } => holds(0x28, "receipt", (*receipt as usize) < RECEIPTS),
     }
 }

@@ -1,6 +1,7 @@
 //! Files of lines, and the list that is stored for a place without the Rust.
 use crate::batch::Batch;
 use crate::coverage::WANTED;
+use crate::full_width;
 use crate::generator::Generator;
 use std::io::Write;
 use std::path::Path;
@@ -57,7 +58,7 @@ fn beginning(batch: &Batch, list: &[&'static str]) -> Batch {
 }
 
 /// Prints lines of a few runs in which everything wanted comes: again and again the run that brings most for its size. What
-/// comes before their starts goes first, where nothing is started.
+/// comes before their starts goes first, where nothing is started. Behind them the runs that tell faults apart.
 pub fn print_lines() {
     let runs: Vec<Batch> = (1..=3000).map(run).collect();
     let (mut missing, mut before, mut behind) = (WANTED.to_vec(), Vec::new(), Vec::new());
@@ -75,6 +76,7 @@ pub fn print_lines() {
         behind.extend_from_slice(&batch.lines[start..]);
         missing.retain(|what| !news.contains(what));
     }
+    behind.extend(full_width::lines());
     for line in before.iter().chain(&behind) {
         println!("{}", std::str::from_utf8(line).unwrap());
     }

@@ -1,0 +1,184 @@
+//! Faults that can be put into the oracle's own reading of calls, questions and records, to see that a list of calls tells each
+//! of them apart.
+use crate::call::Call;
+use crate::caught::caught;
+use crate::check_sequence::bit;
+use crate::oracle::Oracle;
+use crate::outcome::text;
+use crate::store::lines_of;
+use std::cell::Cell;
+use std::path::Path;
+
+/// One fault.
+#[derive(Clone, Copy, Debug, PartialEq, Eq)]
+pub enum Fault {
+    /// A tag is taken as another.
+    TagAs(u8, u8),
+    /// A byte of the value of a call with a tag is read as 0, so that its field is read short.
+    ByteRead(u8, usize),
+    /// Of a call with a tag, one part of question 5 is not asked.
+    NotAsked(u8, &'static str),
+    /// Of a request with a tag, one question of 6 to 8 is asked before the others.
+    AskedFirst(u8, u8),
+    /// 14 is asked before 13.
+    FourteenFirst,
+    /// 13 is asked before 9 to 12.
+    ThirteenFirst,
+    /// The check sequence of a frame of a type is not checked.
+    NotChecked(u32),
+    /// What a frame of a type sends up has an empty block.
+    BlockLost(u32),
+    /// What a frame of a type sends up has endpoint 0.
+    EndpointLost(u32),
+    /// A byte of a field is written as 0 in records of a kind.
+    ByteWritten(u8, u8, usize),
+}
+
+/// The last byte of a field.
+pub const LAST: usize = usize::MAX;
+
+thread_local! {
+    /// The fault that is put in.
+    static FAULT: Cell<Option<Fault>> = const { Cell::new(None) };
+}
+
+/// Is it put in?
+pub fn is(fault: Fault) -> bool {
+    FAULT.get() == Some(fault)
+}
+
+/// The tag that is read.
+pub fn tag(tag: u8) -> u8 {
+    match FAULT.get() {
+        Some(Fault::TagAs(from, to)) if from == tag => to,
+        _ => tag,
+    }
+}
+
+/// The value that is read of a call with a tag.
+pub fn value(tag: u8, value: &[u8]) -> Vec<u8> {
+    let mut value = value.to_vec();
+    if let Some(Fault::ByteRead(of, place)) = FAULT.get()
+        && of == tag
+        && place < value.len()
+    {
+        value[place] = 0;
+    }
+    value
+}
+
+/// The question of 6 to 8 that is asked first of a request with a tag, if not 6.
+pub fn asked_first(tag: u8) -> Option<u8> {
+    match FAULT.get() {
+        Some(Fault::AskedFirst(of, number)) if of == tag => Some(number),
+        _ => None,
+    }
+}
+
+/// Spoils a record that a call gave.
+pub fn spoil(record: &mut Vec<u8>, call: &Call) {
+    let Some(fault) = FAULT.get() else {
+        return;
+    };
+    let kind_up = match call {
+        Call::Frame(frame) => Some(bit(&frame.bits, 2) << 1 | bit(&frame.bits, 3)),
+        _ => None,
+    };
+    let kind = record[3];
+    let mut at = 0;
+    while at < record.len() {
+        let (tag, len) = (record[at], u16::from_be_bytes([record[at + 1], record[at + 2]]) as usize);
+        match fault {
+            Fault::ByteWritten(of, field, place) if of == kind && field == tag && len > 0 => record[at + 3 + place.min(len - 1)] = 0,
+            Fault::BlockLost(of) if Some(of) == kind_up && tag == 0x0b => {
+                record.drain(at + 3..at + 3 + len);
+                record[at + 1..at + 3].fill(0);
+            }
+            Fault::EndpointLost(of) if Some(of) == kind_up && tag == 0x06 => record[at + 3..at + 7].fill(0),
+            _ => {}
+        }
+        at += 3 + u16::from_be_bytes([record[at + 1], record[at + 2]]) as usize;
+    }
+}
+
+/// Every fault that a list has to tell apart.
+pub fn all() -> Vec<Fault> {
+    let mut all = vec![Fault::FourteenFirst, Fault::ThirteenFirst];
+    all.extend((0x00..=0x20).map(|tag| Fault::TagAs(tag, 0x21)));
+    all.extend((0x29..=0x2f).map(|tag| Fault::TagAs(tag, 0x28)));
+    all.extend((0x21..=0x28).map(|tag| Fault::TagAs(tag | 0x80, tag)));
+    for (tag, count) in [(0x21, 4), (0x22, 5), (0x24, 22), (0x25, 22), (0x26, 14), (0x27, 2), (0x28, 1)] {
+        all.extend((0..count).map(|place| Fault::ByteRead(tag, place)));
+    }
+    let request = ["type", "carrier given", "flag 8", "flag 16", "flag 32", "flag 64", "flag 128", "receipt"];
+    let request = request.into_iter().chain(["mask under 16", "mask with flag 4", "carrier 0", "block", "SDU"]);
+    all.extend(request.flat_map(|part| [Fault::NotAsked(0x24, part), Fault::NotAsked(0x25, part)]));
+    all.extend(["type", "block", "frame"].map(|part| Fault::NotAsked(0x26, part)));
+    all.extend(["m", "f", "t"].map(|part| Fault::NotAsked(0x22, part)));
+    all.extend(["receipt", "report"].map(|part| Fault::NotAsked(0x27, part)));
+    all.extend([Fault::NotAsked(0x28, "receipt"), Fault::NotAsked(0x21, "T251")]);
+    all.extend([Fault::AskedFirst(0x24, 7), Fault::AskedFirst(0x24, 8), Fault::AskedFirst(0x25, 8)]);
+    for kind in 0..4 {
+        all.extend([Fault::NotChecked(kind), Fault::BlockLost(kind), Fault::EndpointLost(kind)]);
+    }
+    // The bytes that are not always 0, of each field of each kind of record.
+    let fields: [(u8, &[(u8, usize, usize)]); 5] = [
+        (1, &[(2, 0, 3), (3, 0, 1), (4, 0, 2), (6, 0, 4), (7, 0, 4), (9, 0, 1), (0xa, 0, 1), (0xb, 0, 1), (0xc, 0, 3)]),
+        (2, &[(2, 0, 3), (3, 0, 1), (4, 0, 2), (5, 3, 4), (8, 0, 1), (9, 0, 1), (0xc, 1, 3)]),
+        (
+            3,
+            &[
+                (2, 0, 3),
+                (3, 0, 1),
+                (4, 0, 2),
+                (5, 0, 4),
+                (6, 0, 4),
+                (7, 0, 4),
+                (8, 0, 1),
+                (9, 0, 1),
+                (0xa, 0, 1),
+                (0xb, 0, 1),
+                (0xc, 0, 3),
+            ],
+        ),
+        (4, &[(2, 0, 3), (3, 0, 1), (5, 0, 4), (6, 0, 4), (0xb, 0, 1), (0xd, 0, 1), (0xc, 0, 3)]),
+        (5, &[(2, 0, 3), (3, 0, 1), (6, 0, 4), (0xb, 0, 1), (0xd, 0, 1), (0xc, 0, 3)]),
+    ];
+    for (kind, list) in fields {
+        for &(field, from, to) in list {
+            all.extend((from..to).map(|place| Fault::ByteWritten(kind, field, place)));
+        }
+        all.extend([0xb, 0xc].map(|field| Fault::ByteWritten(kind, field, LAST)).into_iter().filter(|_| kind != 2));
+    }
+    all
+}
+
+/// Does a list of lines tell a fault apart: is some answer another with it? A fault that ends in a panic is told apart by it.
+fn is_told(lines: &[Vec<u8>], expected: &[String], fault: Fault) -> bool {
+    FAULT.set(Some(fault));
+    let mut oracle = Oracle::new();
+    let is_told = lines.iter().zip(expected).any(|(line, expected)| {
+        let answer = caught(|| oracle.line(line));
+        answer.is_none_or(|answer| text(answer.number, answer.records.iter().map(|record| record.as_slice())) != *expected)
+    });
+    FAULT.set(None);
+    is_told
+}
+
+/// Prints whether the lines of a file tell every fault apart; ends the program.
+pub fn print_told(file: &Path) {
+    let lines = lines_of(file);
+    let mut oracle = Oracle::new();
+    let answers = lines.iter().map(|line| oracle.line(line));
+    let expected: Vec<String> =
+        answers.map(|answer| text(answer.number, answer.records.iter().map(|record| record.as_slice()))).collect();
+    let all = all();
+    let missed: Vec<String> =
+        all.iter().filter(|fault| !is_told(&lines, &expected, **fault)).map(|fault| format!("{fault:x?}")).collect();
+    if missed.is_empty() {
+        println!("ok: {} tells each of {} faults apart", file.display(), all.len());
+    } else {
+        println!("FAILED: {} does not tell apart: {}", file.display(), missed.join(", "));
+    }
+    std::process::exit(!missed.is_empty() as i32);
+}

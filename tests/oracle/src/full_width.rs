@@ -1,0 +1,186 @@
+//! Runs that tell faults apart: every field of every call and record with a value that differs in every byte, each tag and each
+//! value next to the known ones, and calls that fail two questions.
+use crate::bits::Bits;
+use crate::call::{Call, Frame, Request};
+use crate::hex_line::line_of;
+use crate::oracle::{MESSAGES, ROWS, UNACKNOWLEDGED};
+
+const CARRIER: u16 = 0x5678;
+const MAIN_CARRIER: u16 = 0x1234;
+/// Read short it is 1 or 512.
+const T251: u16 = 0x0201;
+/// Bits of an SDU; its count has two bytes that are not 0, also behind a header.
+const SDU: usize = 0x0143;
+
+/// An address.
+fn ssi(number: u32) -> u32 {
+    0xa1b2_c3 + 0x01_0101 * number
+}
+
+/// A block in which no two bytes are the same.
+fn block() -> Vec<u8> {
+    (0..64).map(|place| 0x81 + place).collect()
+}
+
+/// A list of bits of no meaning, the last of them 1.
+fn put_bits(bits: &mut Bits, count: usize) {
+    (0..count).for_each(|place| bits.push(place * place % 7 < 3 || place + 1 == count));
+}
+
+/// A request.
+fn request(address: u32, kind: u8, flags: u8, receipt: u8) -> Request {
+    let mut bits = Bits::default();
+    put_bits(&mut bits, SDU);
+    Request {
+        ssi: ssi(address),
+        kind,
+        carrier_given: 1,
+        carrier: CARRIER,
+        link: 0x1122_3344,
+        endpoint: 0x5566_7788,
+        handle: 0x99aa_bbcc,
+        flags,
+        mask: if flags & 4 == 0 { 0 } else { 0x0b },
+        receipt,
+        block: block(),
+        bit_count: SDU as u16,
+        bits: bits.bytes(),
+    }
+}
+
+/// A request with nothing in it that need not be.
+fn short(address: u32, receipt: u8) -> Request {
+    let (block, bits) = (Vec::new(), Vec::new());
+    Request { ssi: address, kind: 1, block, bit_count: 0, bits, ..request(0, 1, 0, receipt) }
+}
+
+/// A frame of a type, with an SDU, without a check sequence (0), with one (1), or with one that is wrong (2).
+fn frame(address: u32, kind: u8, pdu: u32, check: u8) -> Frame {
+    let mut bits = Bits::default();
+    bits.push_value((if check > 0 { 4 } else { 0 }) | pdu, 4);
+    bits.push_value(3, [2, 1, 0, 1][pdu as usize]);
+    let header = bits.len();
+    put_bits(&mut bits, SDU);
+    if check > 0 {
+        bits.push_fcs(header);
+    }
+    if check > 1 {
+        bits.flip(header + 9);
+    }
+    let (bit_count, bits) = (bits.len() as u16, bits.bytes());
+    let (link, endpoint) = (0xd1e2_f304, 0x1525_3545);
+    Frame { ssi: ssi(address), kind, carrier: CARRIER, link, endpoint, block: block(), bit_count, bits }
+}
+
+/// A time.
+fn time(h: u16, m: u8, f: u8, t: u8) -> Call {
+    Call::TickStart { h, m, f, t }
+}
+
+/// Every field of every call and record. A message is done in the last slot of hyperframe 255, and its resend is due T251 later.
+fn fields() -> Vec<Call> {
+    let mut calls = vec![Call::Start { carrier: MAIN_CARRIER, t251: T251 }, time(0x01ff, 60, 18, 4)];
+    for pdu in 0..4 {
+        for (kind, check) in [(1, 0), (1, 1), (1, 2), (2, 0), (2, 1), (2, 2)] {
+            calls.push(Call::Frame(frame(pdu, kind, pdu, check)));
+        }
+    }
+    calls.extend([
+        // A BL-ACK with the request's link id, BL-UDATA, BL-ADATA, BL-DATA, and BL-UDATA with the request's link id.
+        Call::Data(request(1, 1, 5, 0x71)),
+        Call::Data(request(4, 1, 5, 0x72)),
+        Call::Data(request(5, 2, 6, 0x73)),
+        Call::Data(request(0, 1, 4, 0x74)),
+        Call::Data(request(6, 1, 6, 0x75)),
+        Call::Unitdata(request(7, 1, 5, 0x76)),
+        Call::Unitdata(request(7, 2, 6, 0x77)),
+        // On the main carrier.
+        Call::Data(Request { carrier_given: 0, carrier: 0, ..request(8, 1, 0, 0x78) }),
+        Call::TickEnd,
+    ]);
+    calls.extend([0x71, 0x72, 0x76, 0x74, 0x75].map(|receipt| Call::Report { receipt, value: 1 }));
+    calls.extend([0x73, 0x77, 0x78].map(|receipt| Call::Report { receipt, value: 2 }));
+    calls.push(Call::TickEnd);
+    calls.extend([0x71, 0x72, 0x73, 0x74, 0x76, 0x77].map(|receipt| Call::Release { receipt }));
+    // 1, 2, 512, 513 and 514 slots later.
+    for later in [time(0x0200, 1, 1, 1), time(0x0200, 1, 1, 2), time(0x0200, 8, 2, 4), time(0x0200, 8, 3, 1), time(0x0200, 8, 3, 2)] {
+        calls.extend([later, Call::TickEnd]);
+    }
+    calls
+}
+
+/// Each value next to those in range, each in a call in which all else is.
+fn ranges() -> Vec<Call> {
+    let mut calls = vec![Call::Start { carrier: MAIN_CARRIER, t251: T251 }, Call::Start { carrier: MAIN_CARRIER, t251: 0 }];
+    calls.extend([time(1, 0, 1, 1), time(1, 61, 1, 1), time(1, 1, 0, 1), time(1, 1, 19, 1), time(1, 1, 1, 0), time(1, 1, 1, 5)]);
+    let ok = short(0xa1b2c3, 0x71);
+    let mut requests: Vec<Request> = [0, 3].map(|kind| Request { kind, ..ok.clone() }).to_vec();
+    requests.push(Request { carrier_given: 2, carrier: 0, ..ok.clone() });
+    requests.extend([8, 16, 32, 64, 128].map(|flags| Request { flags, ..ok.clone() }));
+    requests.push(Request { receipt: 128, ..ok.clone() });
+    requests.push(Request { flags: 4, mask: 16, ..ok.clone() });
+    requests.push(Request { flags: 3, mask: 8, ..ok.clone() });
+    requests.extend([0x0100, 0x0001].map(|carrier| Request { carrier_given: 0, carrier, ..ok.clone() }));
+    requests.push(Request { block: vec![7; 65], ..ok.clone() });
+    requests.push(Request { bit_count: 2596, bits: vec![0; 325], ..ok });
+    calls.extend(requests.iter().cloned().map(Call::Data));
+    calls.extend(requests.into_iter().map(Call::Unitdata));
+    let ok = Frame { block: Vec::new(), bit_count: 4, bits: vec![0x20], ..frame(0, 1, 2, 0) };
+    calls.extend([0, 3].map(|kind| Call::Frame(Frame { kind, ..ok.clone() })));
+    calls.push(Call::Frame(Frame { block: vec![7; 65], ..ok.clone() }));
+    calls.push(Call::Frame(Frame { bit_count: 2634, bits: [vec![0x20], vec![0; 329]].concat(), ..ok }));
+    calls.extend([(128, 1), (0x71, 0), (0x71, 3)].map(|(receipt, value)| Call::Report { receipt, value }));
+    calls.push(Call::Release { receipt: 128 });
+    calls
+}
+
+/// Requests that fail two of the questions 6 to 8: with 32 messages held, then with every row taken and 64 messages held.
+fn orders() -> Vec<Call> {
+    let mut calls = vec![Call::Start { carrier: MAIN_CARRIER, t251: u16::MAX }];
+    calls.extend((0..UNACKNOWLEDGED as u8).map(|receipt| Call::Unitdata(short(9, receipt))));
+    calls.extend([Call::Unitdata(short(9, 5)), Call::Data(Request { kind: 2, ..short(9, 5) })]);
+    calls.push(Call::Start { carrier: MAIN_CARRIER, t251: u16::MAX });
+    let receipts = || 0..MESSAGES as u8;
+    for group in 0..(ROWS / MESSAGES) as u32 {
+        let address = |receipt: u8| 0x10_0000 * group + receipt as u32;
+        calls.extend(receipts().map(|receipt| Call::Data(short(address(receipt), receipt))));
+        if (group as usize + 1) * MESSAGES < ROWS {
+            calls.push(Call::TickEnd);
+            calls.extend(receipts().map(|receipt| Call::Report { receipt, value: 1 }));
+            calls.push(Call::TickEnd);
+            // A BL-ACK with N(R) 0 to each.
+            let ack = Frame { block: Vec::new(), bit_count: 5, bits: vec![0x30], ..frame(0, 1, 3, 0) };
+            calls.extend(receipts().map(|receipt| Call::Frame(Frame { ssi: address(receipt), ..ack.clone() })));
+            calls.extend(receipts().map(|receipt| Call::Release { receipt }));
+        }
+    }
+    // 6 and 7 and 8; 6 and 8; 7 and 8; 8.
+    let (new, old) = (0x00ff_ffff, 0x10_0000);
+    calls.extend([(new, 5), (old, 5), (new, 0x71), (old, 0x71)].map(|(address, receipt)| Call::Data(short(address, receipt))));
+    calls
+}
+
+/// The lines: behind the fields each tag next to the known ones, its lengths as a known one has them.
+pub fn lines() -> Vec<Vec<u8>> {
+    let mut lines: Vec<Vec<u8>> = fields().iter().map(|call| line_of(&call.bytes())).collect();
+    let tagged = |tag: u8, call: Call| {
+        let mut bytes = call.bytes();
+        bytes[0] = tag;
+        line_of(&bytes)
+    };
+    lines.extend((0x00..=0x20).map(|tag| tagged(tag, Call::Start { carrier: MAIN_CARRIER, t251: T251 })));
+    lines.extend((0x29..=0x2f).map(|tag| tagged(tag, Call::Release { receipt: 0x78 })));
+    let known = [
+        Call::Start { carrier: MAIN_CARRIER, t251: T251 },
+        time(1, 1, 1, 1),
+        Call::TickEnd,
+        Call::Data(short(9, 1)),
+        Call::Unitdata(short(9, 1)),
+        Call::Frame(frame(0, 1, 2, 0)),
+        Call::Report { receipt: 1, value: 1 },
+        Call::Release { receipt: 1 },
+    ];
+    lines.extend(known.into_iter().map(|call| tagged(call.bytes()[0] | 0x80, call)));
+    lines.extend(ranges().iter().chain(&orders()).map(|call| line_of(&call.bytes())));
+    lines
+}

@@ -1,0 +1,158 @@
+//! Frames: read and written, and the sixteen types.
+use crate::caught::caught;
+use crate::exports::*;
+use crate::prng::Prng;
+use crate::report::Report;
+use tetra_core::BitBuffer;
+use tetra_pdus::llc::enums::llc_pdu_type::LlcPduType;
+use tetra_pdus::llc::pdus::{bl_ack::BlAck, bl_adata::BlAdata, bl_data::BlData, bl_udata::BlUdata};
+
+const WANTED: &[(&str, &[&str])] = &[
+    ("from_bitbuf", &["BL-ADATA", "BL-DATA", "BL-UDATA", "BL-ACK", "9", "10", "11", "5"]),
+    ("to_bitbuf", &["BL-ADATA", "BL-DATA", "BL-UDATA", "BL-ACK", "5", "5, a long SDU", "8"]),
+    ("try_from and into_raw", &["a type", "none"]),
+];
+const NAMES: [&str; 4] = ["BL-ADATA", "BL-DATA", "BL-UDATA", "BL-ACK"];
+/// The longest SDU of a frame that goes out.
+const LONGEST: usize = 2595;
+/// A refusal of a function that answers with one number.
+const REFUSED: u64 = 1 << 32;
+
+/// What a reader of the Rust gives, as the link asks it: the type by the first four bits, then the reader of that type.
+fn rust_read(frame: &[u8], len: usize) -> FrameAnswer {
+    let refused =
+        |number| FrameAnswer { number, kind: 0, has_fcs: false, nr: false, ns: false, first: 0, len: 0, place: 0 };
+    let mut buffer = BitBuffer::from_bytes(frame);
+    // "A window that does not lie inside its bytes".
+    if caught(|| buffer.set_raw_end(len)).is_none() {
+        return refused(5);
+    }
+    let Some(raw) = buffer.peek_bits(4) else {
+        return refused(9);
+    };
+    let read = match LlcPduType::try_from(raw).unwrap() {
+        LlcPduType::BlAdata | LlcPduType::BlAdataFcs => {
+            BlAdata::from_bitbuf(&mut buffer).ok().map(|pdu| (0, pdu.has_fcs, pdu.nr == 1, pdu.ns == 1))
+        }
+        LlcPduType::BlData | LlcPduType::BlDataFcs => {
+            BlData::from_bitbuf(&mut buffer).ok().map(|pdu| (1, pdu.has_fcs, false, pdu.ns == 1))
+        }
+        LlcPduType::BlUdata | LlcPduType::BlUdataFcs => {
+            BlUdata::from_bitbuf(&mut buffer).ok().map(|pdu| (2, pdu.has_fcs, false, false))
+        }
+        LlcPduType::BlAck | LlcPduType::BlAckFcs => {
+            BlAck::from_bitbuf(&mut buffer).ok().map(|pdu| (3, pdu.has_fcs, pdu.nr == 1, false))
+        }
+        _ => return refused(10),
+    };
+    let Some((kind, has_fcs, nr, ns)) = read else {
+        return refused(11);
+    };
+    let (first, left) = (buffer.get_raw_pos(), buffer.get_len_remaining());
+    // The copy of what is left begins at the SDU's first bit's place in its bytes.
+    let copy = BitBuffer::from_bitbuffer_pos(&buffer);
+    let place = if left == 0 { 0 } else { copy.get_raw_start() };
+    FrameAnswer { number: 0, kind, has_fcs, nr, ns, first, len: left, place }
+}
+
+/// Reads one frame on both sides.
+fn read(frame: &[u8], len: usize, report: &mut Report) {
+    let here = unsafe { leaf_from_bitbuf(frame.as_ptr(), frame.len(), len) };
+    let rust = rust_read(frame, len);
+    let answer = match rust.number {
+        0 => NAMES[rust.kind as usize],
+        5 => "5",
+        9 => "9",
+        10 => "10",
+        _ => "11",
+    };
+    report.compare("from_bitbuf", answer, || format!("{len} bits of {frame:02x?}"), &here, &rust);
+}
+
+/// What the Rust writes: the header and the SDU into the lent bytes. Nothing, if it panics.
+fn rust_write(pdu: (u8, bool, bool, bool), out: &[u8], sdu: &[u8], from: usize, len: usize) -> Option<(u64, Vec<u8>)> {
+    let (kind, has_fcs, nr, ns) = pdu;
+    let (nr, ns) = (nr as u8, ns as u8);
+    caught(|| {
+        let mut source = BitBuffer::from_bytes(sdu);
+        source.set_raw_end(from.checked_add(len).unwrap());
+        source.set_raw_pos(from);
+        let mut buffer = BitBuffer::from_bytes(out);
+        match kind {
+            0 => BlAdata { has_fcs, nr, ns }.to_bitbuf(&mut buffer),
+            1 => BlData { has_fcs, ns }.to_bitbuf(&mut buffer),
+            2 => BlUdata { has_fcs }.to_bitbuf(&mut buffer),
+            _ => BlAck { has_fcs, nr }.to_bitbuf(&mut buffer),
+        }
+        buffer.copy_bits(&mut source, len);
+        (buffer.get_raw_pos() as u64, buffer.into_bytes())
+    })
+}
+
+/// Writes one frame on both sides.
+fn write(pdu: (u8, bool, bool, bool), out: &[u8], sdu: &[u8], from: usize, len: usize, report: &mut Report) {
+    let (kind, has_fcs, nr, ns) = pdu;
+    let mut here = out.to_vec();
+    let count = here.len();
+    let written =
+        unsafe { leaf_to_bitbuf(kind, has_fcs, nr, ns, here.as_mut_ptr(), count, sdu.as_ptr(), sdu.len(), from, len) };
+    let rust = rust_write(pdu, out, sdu, from, len);
+    let is_inside = from.checked_add(len).is_some_and(|end| end <= 8 * sdu.len());
+    let (answer, expected) = match rust {
+        // "A long SDU": the Rust has no limit, and writes it where there is room.
+        _ if len > LONGEST && is_inside => ("5, a long SDU", (REFUSED + 5, out.to_vec())),
+        Some(rust) => (NAMES[kind as usize], rust),
+        None if !is_inside => ("5", (REFUSED + 5, out.to_vec())),
+        None => ("8", (REFUSED + 8, out.to_vec())),
+    };
+    let input = || format!("{pdu:?} with {len} bits from {from} of {} bytes into {count}", sdu.len());
+    report.compare("to_bitbuf", answer, input, &(written, here), &expected);
+}
+
+/// Every frame of up to ten bits, with other bits behind them; longer ones; every PDU; the types.
+pub fn compare(prng: &mut Prng) -> bool {
+    let mut report = Report::new("frames", WANTED);
+    for bits in 0..1024u32 {
+        for len in 0..=10 {
+            for spare in [0, 63] {
+                let frame = [(bits >> 2) as u8, (bits << 6) as u8 | spare];
+                read(&frame, len, &mut report);
+                read(&frame[..len.div_ceil(8)], len, &mut report);
+            }
+        }
+    }
+    let random = |count: usize, prng: &mut Prng| -> Vec<u8> { (0..count).map(|_| prng.next() as u8).collect() };
+    for _ in 0..100_000 {
+        let count = if prng.once_in(100) { 340 } else { prng.below(12) };
+        let frame = random(count, prng);
+        let len = if prng.once_in(50) { usize::MAX - prng.below(9) } else { prng.below(8 * count + 3) };
+        read(&frame, len, &mut report);
+    }
+    let sdu = random(330, prng);
+    let lens = [0, 1, 2, 3, 7, 8, 9, 31, 32, 33, 63, 64, 65, 66, 2594, 2595, 2596, 2633, usize::MAX];
+    for number in 0..32u8 {
+        let pdu = (number >> 3, number & 4 != 0, number & 2 != 0, number & 1 != 0);
+        for len in lens {
+            for from in [0, 1, 5, 8, 11, 44, 45, 46, usize::MAX] {
+                // Room for all, for just this, for one byte less.
+                let least = len.saturating_add(6).div_ceil(8).min(340);
+                for room in [340, least, least.saturating_sub(1), 0] {
+                    write(pdu, &random(room, prng), &sdu, from, len, &mut report);
+                }
+            }
+        }
+    }
+    for _ in 0..50_000 {
+        let pdu = (prng.below(4) as u8, prng.once_in(2), prng.once_in(2), prng.once_in(2));
+        let sdu = random(prng.below(20), prng);
+        let (from, len) = (prng.below(8 * sdu.len() + 2), prng.below(8 * sdu.len() + 2));
+        write(pdu, &random(prng.below(22), prng), &sdu, from, len, &mut report);
+    }
+    for x in (0..=300).chain([1 << 32, u64::MAX]).chain((0..1000).map(|_| prng.next())) {
+        let rust = LlcPduType::try_from(x).map(|found| found.into_raw());
+        let answer = if rust.is_ok() { "a type" } else { "none" };
+        let here = Some(leaf_type(x)).filter(|&raw| raw < REFUSED);
+        report.compare("try_from and into_raw", answer, || x.to_string(), &here, &rust.ok());
+    }
+    report.finish()
+}
