@@ -19,7 +19,7 @@ use Rattle.llc_rule.specs.Step.{isStart, called, step}
 use Rattle.llc_rule.specs.Rule.{Own, atFirst, mayCome, judged, rule}
 use Rattle.llc_rule.specs.Runs.{left, given, Exchange, exchange, run, after}
 use Rattle.llc_rule.specs.Past.{Holders, nobody, heldAfterCall, holders, whoseIs, whose, concerns, inPast, past, strays, holdersAfter, isTickEnd, sight, isHolder, heldBy, takenFrom}
-use Rattle.llc_rule.specs.Claim.{ruleSights, ruleAfter, calls, unhindered, Demand3}
+use Rattle.llc_rule.specs.Claim.{ruleRun, ruleSights, ruleAfter, calls, unhindered, Demand3}
 use Rattle.llc_rule.specs.Sound.{Sound, isNobody}
 use Rattle.llc_rule.proofs.Lists.{by-test, either, both}
 use Rattle.llc_rule.proofs.Own.{about, blankFrom, blank, own, seenAs}
@@ -135,7 +135,7 @@ record Sees (a : ℕ) (h : Holders) (l : Link) (cs : List (List ℕ)) : Type 0 w
   alone : strays a h (run l cs) ≡ []
 
 sees : (a : ℕ) (h : Holders) (l : Link) (cs : List (List ℕ)) → Sound h l → unhindered (run l cs) ≡ true → Sees a h l cs
-unfolding run after past strays holdersAfter ruleSights ruleAfter unhindered all sight
+unfolding run after past strays holdersAfter ruleRun ruleSights ruleAfter unhindered all sight
 sees a h l [] ok u = record { seen = refl; has = refl; alone = refl }
 sees a h l (c ∷ cs) ok u =
     let e : Exchange = exchange c (step l c) in

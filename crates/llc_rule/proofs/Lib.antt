@@ -10,6 +10,7 @@ pub mod SoundFrames
 pub mod SoundCalls
 pub mod SoundTickEnd
 pub mod Sendings
+pub mod SendingsByRule
 pub mod SeenTickEnd
 pub mod SeenCalls
 pub mod Demand3

@@ -339,7 +339,7 @@ onward-tickEnd i s l h =
 -- Calls -------------------------------------------------------------------------------------------------------------------
 
 -- A free place is another than one that is taken.
-free-other : (ps : List Place) (j i : ℕ) → isFree (placeAt ps j) ≡ true → IsTaken ps i → eqb j i ≡ false
+pub free-other : (ps : List Place) (j i : ℕ) → isFree (placeAt ps j) ≡ true → IsTaken ps i → eqb j i ≡ false
 free-other ps j i f h = by-test (eqb j i) (λ e. clash f (rw (eqb-true j i e) h)) (λ e. e)
 
 module _ (i : ℕ) (s : Sent) (l : Link) (h : IsTaken (l .receipts) i) where
@@ -652,12 +652,20 @@ at-most-four r l cs b =
       same = k .same;
     }
 
--- Each accepted request is handed down at most four times, with the same bits.
+-- A request that a sound link accepts is handed down at most four times, with the same bits.
+pub four-after :
+    (h : Holders) (l : Link) (c : List ℕ) (r : Request) (later : List (List ℕ))
+    → Sound h l
+    → number (step l c) ≡ 0
+    → requestOf (parsed c) ≡ some r
+    → AtMostFour r (sendings (r .receipt) (run (left l (step l c)) later))
+four-after h l c r later sound e t = at-most-four r (left l (step l c)) later (begun-step h l sound r c e t)
+
+-- Each accepted request is.
 pub handed-down : HandedDown
 handed-down =
     record {
       each =
-          λ before c r later e t.
-          let l = after new before in
-          at-most-four r (left l (step l c)) later (begun-step (holdersAfter nobody (run new before)) l (sound-run before) r c e t);
+          λ before c r later.
+          four-after (holdersAfter nobody (run new before)) (after new before) c r later (sound-run before);
     }

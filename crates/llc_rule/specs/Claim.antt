@@ -6,20 +6,21 @@ use mathlib.Core.Bool.{Bool, true, false, not}
 use mathlib.Core.List.{List, [], _∷_, _++_, map}
 use lib.Dec.{eqb}
 use lib.ListN.{length}
-use Rattle.questions.specs.Outcome.{number}
 use Rattle.llc_rule.specs.Lists.{keep, all, among}
 use Rattle.llc_rule.specs.Messages.{Message, Place}
 use Rattle.llc_rule.specs.Link.{new}
 use Rattle.llc_rule.specs.Rule.{Own, atFirst, rule}
-use Rattle.llc_rule.specs.Runs.{Exchange, left, given, run, after}
+use Rattle.llc_rule.specs.Runs.{Exchange, exchange, left, run, after}
 use Rattle.llc_rule.specs.Past.{nobody, Whose, belongsTo, whose, past, strays, holdersAfter, Sight, sight, heldBy, takenFrom}
 use Rattle.llc_rule.specs.Sound.{ofAddress}
 
--- What the rule gives on a list of calls: a number and records for each, and what it keeps after them.
+-- What the rule answers to a list of calls: an exchange for each, what is seen of it, and what the rule keeps after them.
+unfoldable pub ruleRun : Own → List (List ℕ) → List Exchange
+ruleRun o [] = []
+ruleRun o (c ∷ cs) = exchange c (rule o c) ∷ ruleRun (left o (rule o c)) cs
+
 unfoldable pub ruleSights : Own → List (List ℕ) → List Sight
-ruleSights o [] = []
-ruleSights o (c ∷ cs) =
-    record { number = number (rule o c); records = given (rule o c) } ∷ ruleSights (left o (rule o c)) cs
+ruleSights o cs = map (λ (e : Exchange). record { number = e .number; records = e .records }) (ruleRun o cs)
 
 unfoldable pub ruleAfter : Own → List (List ℕ) → Own
 ruleAfter o [] = o

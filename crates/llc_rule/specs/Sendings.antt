@@ -13,7 +13,10 @@ use Rattle.llc_rule.specs.Records.{Record, acknowledged, reply, unacknow
 use Rattle.llc_rule.specs.Messages.{sentOf}
 use Rattle.llc_rule.specs.Link.{new}
 use Rattle.llc_rule.specs.Step.{step}
+use Rattle.llc_rule.specs.Rule.{atFirst}
 use Rattle.llc_rule.specs.Runs.{Exchange, left, run, after}
+use Rattle.llc_rule.specs.Past.{nobody, past}
+use Rattle.llc_rule.specs.Claim.{ruleRun, calls, unhindered}
 use Rattle.llc_rule.specs.Sound.{All}
 
 -- The request that a call is.
@@ -70,3 +73,21 @@ pub record HandedDown : Type 0 where
       → number (step (after new before) c) ≡ 0
       → requestOf (parsed c) ≡ some r
       → AtMostFour r (sendings (r .receipt) (run (left (after new before) (step (after new before) c)) later))
+
+-- Of every request that is accepted among some exchanges, by those that follow it.
+pub record EachAtMostFour (es : List Exchange) : Type 0 where
+  pub each :
+      (before : List Exchange) (e : Exchange) (later : List Exchange) (r : Request)
+      → es ≡ before ++ (e ∷ later)
+      → e .number ≡ 0
+      → requestOf (parsed (e .call)) ≡ some r
+      → AtMostFour r (sendings (r .receipt) later)
+
+-- "By that rule .. each is handed down at most four times": numbers and records are those that the rule gives on the past of an
+-- address.
+pub record HandedDownByRule : Type 0 where
+  pub each :
+      (cs : List (List ℕ))
+      → unhindered (run new cs) ≡ true
+      → (a : ℕ)
+      → EachAtMostFour (ruleRun atFirst (calls (past a nobody (run new cs))))

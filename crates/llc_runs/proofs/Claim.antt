@@ -19,14 +19,15 @@ use Rattle.llc_rule.specs.Runs as Rule
 use Rattle.llc_rule.specs.Runs.{Exchange}
 use Rattle.llc_rule.specs.Past.{Holders, nobody, belongsTo, whose, past, strays, holdersAfter, sight, heldBy, takenFrom}
 use Rattle.llc_rule.specs.Claim as OnLink
-use Rattle.llc_rule.specs.Claim.{ruleSights, ruleAfter, calls, unhindered, SeesItsOwnPast, SeesTheSame, underWay}
+use Rattle.llc_rule.specs.Claim.{ruleRun, ruleSights, ruleAfter, calls, unhindered, SeesItsOwnPast, SeesTheSame, underWay}
 use Rattle.llc_rule.specs.Sound.{ofAddress}
-use Rattle.llc_rule.specs.Sendings.{requestOf, sendings, AtMostFour}
+use Rattle.llc_rule.specs.Sendings.{requestOf, sendings, AtMostFour, EachAtMostFour}
 use Rattle.llc_rule.proofs.Lists.{by-test, if-true, if-false, clash}
 use Rattle.llc_rule.proofs.Demand3.{demand3}
 use Rattle.llc_rule.proofs.Swap.{swap}
 use Rattle.llc_rule.proofs.UnderWay.{one-under-way}
 use Rattle.llc_rule.proofs.Sendings.{handed-down}
+use Rattle.llc_rule.proofs.SendingsByRule.{handed-down-by-rule}
 use Rattle.llc_state.specs.Ranges.{inRange}
 use Rattle.llc_state.proofs.View.{new-in-range}
 use Rattle.llc.specs.Entry.{lentRight}
@@ -305,6 +306,15 @@ four store before c r later n e =
     none
     (ap (λ (t : Station). lentRight (t .store) (c .out)) (stuck (begin store) before w .same) ∙ wrong-is (begin store) c w))
 
+four-by-rule :
+    (store : List ℕ) (cs : List Lent)
+    → unhindered (run (begin store) cs) ≡ true
+    → (a : ℕ)
+    → EachAtMostFour (ruleRun atFirst (calls (past a nobody (run (begin store) cs))))
+four-by-rule store cs u a =
+    subst (λ (es : List Exchange). EachAtMostFour (ruleRun atFirst (calls es))) (sym (past-is store cs a nobody))
+    (handed-down-by-rule .each (putTo store cs) (sym (unhindered-is store cs) ∙ u) a)
+
 pub claim : Claim
 claim =
     record {
@@ -320,4 +330,5 @@ claim =
       oneUnderWay = one-by-rule;
       oneInState = one-in-state;
       four = four;
+      fourByRule = four-by-rule;
     }

@@ -15,9 +15,9 @@ use Rattle.llc_rule.specs.Runs as Rule
 use Rattle.llc_rule.specs.Runs.{Exchange}
 use Rattle.llc_rule.specs.Rule.{atFirst}
 use Rattle.llc_rule.specs.Past.{nobody, Whose, belongsTo, whose, past, holdersAfter}
-use Rattle.llc_rule.specs.Claim.{ruleAfter, calls, unhindered, SeesItsOwnPast, SeesTheSame, underWay}
+use Rattle.llc_rule.specs.Claim.{ruleRun, ruleAfter, calls, unhindered, SeesItsOwnPast, SeesTheSame, underWay}
 use Rattle.llc_rule.specs.Sound.{ofAddress}
-use Rattle.llc_rule.specs.Sendings.{requestOf, sendings, AtMostFour}
+use Rattle.llc_rule.specs.Sendings.{requestOf, sendings, AtMostFour, EachAtMostFour}
 use Rattle.record_lines.specs.Split.{inLines, recordLines}
 use Rattle.llc_state.specs.Ranges.{inRange}
 use Rattle.llc_state.specs.View.{linkIn}
@@ -46,6 +46,8 @@ pub record InRange (store : List ℕ) (cs : List Lent) : Type 0 where
   pub length : length (after (begin store) cs .store) ≡ 8 * length store
 
 -- Its numbers and records are those of `step`'s run on the calls that are put to the link, and so is the link that it leaves.
+-- Only this rules out an engine that loses places, so that a released receipt or a place in a queue cannot be had again: each
+-- later request for it is refused with 6, 7, 8 or 13, so the run is hindered and demand 3 says nothing of it.
 pub record AsStep (store : List ℕ) (cs : List Lent) : Type 0 where
   pub heard : heard (run (begin store) cs) ≡ Rule.run new (putTo store cs)
   pub link : linkAt (after (begin store) cs) ≡ Rule.after new (putTo store cs)
@@ -113,3 +115,9 @@ pub record Claim : Type 0 where
       → exchange (after (begin store) before) c .number ≡ 0
       → requestOf (parsed (c .call)) ≡ some r
       → AtMostFour r (sendings (r .receipt) (run (left (after (begin store) before) c) later))
+  -- "By that rule .. each is handed down at most four times": of every request that the rule accepts on a past, by its records.
+  pub fourByRule :
+      (store : List ℕ) (cs : List Lent)
+      → unhindered (run (begin store) cs) ≡ true
+      → (a : ℕ)
+      → EachAtMostFour (ruleRun atFirst (calls (past a nobody (run (begin store) cs))))
