@@ -24,3 +24,4 @@ pub mod Swap
 pub mod UnderWay
 pub mod Runs
 pub mod Instance
+pub mod Applied
