@@ -19,7 +19,7 @@ use Rattle.llc_rule.specs.Step.{isStart, called, step}
 use Rattle.llc_rule.specs.Rule.{Own, atFirst, mayCome, judged, rule}
 use Rattle.llc_rule.specs.Runs.{left, given, Exchange, exchange, run, after}
 use Rattle.llc_rule.specs.Past.{Holders, nobody, heldAfterCall, holders, whoseIs, whose, concerns, inPast, past, strays, holdersAfter, isTickEnd, sight, isHolder, heldBy, takenFrom}
-use Rattle.llc_rule.specs.Claim.{ruleRun, ruleSights, ruleAfter, calls, unhindered, Demand3}
+use Rattle.llc_rule.specs.Claim.{ruleRun, ruleSights, ruleAfter, calls, hindrances, unhindered, Demand3}
 use Rattle.llc_rule.specs.Sound.{Sound, isNobody}
 use Rattle.llc_rule.proofs.Lists.{by-test, either, both}
 use Rattle.llc_rule.proofs.Own.{about, blankFrom, blank, own, seenAs}
@@ -142,7 +142,7 @@ sees a h l (c ∷ cs) ok u =
     let h′ : Holders = holders e h in
     let l′ : Link = left l (step l c) in
     let es : List Exchange = run l′ cs in
-    let now = both {x = not (among (e .number) (6 ∷ 7 ∷ 8 ∷ 13 ∷ []))} {y = unhindered es} u in
+    let now = both {x = not (among (e .number) hindrances)} {y = unhindered es} u in
     let ps : List (List ℕ) = calls (past a h′ es) in
     let later : Sees a h′ l′ cs = sees a h′ l′ cs (sound-step h l c ok) (now .1) in
     by-test (inPast a h e)

@@ -25,3 +25,4 @@ pub mod UnderWay
 pub mod Runs
 pub mod Instance
 pub mod Applied
+pub mod Statements

@@ -2,7 +2,7 @@
 use Prim.Native.Nat.{ℕ, _<_}
 use mathlib.Core.Path.{_≡_, _∙_, refl, sym, ap, subst}
 use mathlib.Core.Bool.{Bool, true, false, cond, not, false≢true}
-use mathlib.Core.List.{List, [], _∷_}
+use mathlib.Core.List.{List, []}
 use mathlib.Core.Option.{Option, none, some}
 use borrow.Author.Tests.{eqb-true, ltb-true}
 use lib.Dec.{eqb}
@@ -21,6 +21,7 @@ use Rattle.llc_rule.specs.Link.{Link, startedWith, bitOf}
 use Rattle.llc_rule.specs.Step.{receiptFree, rowFor, acknowledgedPlace, unacknowledgedPlace, onAcknowledgedPath, withUnacknowledged, dueRoom, reportable, releasable, onData, onUnitdata, onReceived, onFrame, onReport, onRelease, act}
 use Rattle.llc_rule.specs.Rule.{Own, afterStart, afterData, afterUnitdata, afterReceived, afterFrame, does}
 use Rattle.llc_rule.specs.Past.{Holders, nobody, holding, isHolder, heldAfter, holder's, whoseCall, concerns, isTickEnd}
+use Rattle.llc_rule.specs.Claim.{hindrances}
 use Rattle.llc_rule.specs.Sound.{Sound}
 use Rattle.llc_rule.proofs.Lists.{by-test, clash}
 use Rattle.llc_rule.proofs.Own.{about, blankFrom, own, seenAs, accepted-same}
@@ -32,10 +33,10 @@ use Rattle.llc_rule.proofs.SoundRequests.{receipt-within}
 
 -- A number that is none of 6, 7, 8 and 13.
 abbrev pub Unhindered : ℕ → Type 0
-Unhindered n = not (among n (6 ∷ 7 ∷ 8 ∷ 13 ∷ [])) ≡ true
+Unhindered n = not (among n hindrances) ≡ true
 
 -- A question by one of those numbers was passed.
-passed : {A : Type 0} (n : ℕ) (b : Bool) (o : Outcome A) → among n (6 ∷ 7 ∷ 8 ∷ 13 ∷ []) ≡ true → Unhindered (number (ask n b o)) → (b ≡ true) × Unhindered (number o)
+passed : {A : Type 0} (n : ℕ) (b : Bool) (o : Outcome A) → among n hindrances ≡ true → Unhindered (number (ask n b o)) → (b ≡ true) × Unhindered (number o)
 passed n true o e u = (refl, u)
 passed n false o e u = absurd (false≢true (rw e at u))
 

@@ -15,7 +15,7 @@ use Rattle.llc_rule.specs.Step.{step}
 use Rattle.llc_rule.specs.Rule.{Own, rule}
 use Rattle.llc_rule.specs.Runs.{left, given, Exchange, exchange, run, after}
 use Rattle.llc_rule.specs.Past.{Holders, nobody, holders, belongsTo, holder's, whoseCall, whoseIs, whose, concerns, inPast, past, holdersAfter, Sight, sight, isHolder, takenFrom}
-use Rattle.llc_rule.specs.Claim.{calls, unhindered, Swap}
+use Rattle.llc_rule.specs.Claim.{calls, hindrances, unhindered, Swap}
 use Rattle.llc_rule.specs.Sound.{Sound}
 use Rattle.llc_rule.proofs.Lists.{by-test, both, and-false}
 use Rattle.llc_rule.proofs.Own.{own, place-blank}
@@ -128,7 +128,7 @@ same-concern a h l h′ l′ c ok ok′ q =
 -- The same calls, from two links of which it has the same.
 first-unhindered : (l : Link) (c : List ℕ) (cs : List (List ℕ)) → unhindered (run l (c ∷ cs)) ≡ true → Unhindered (number (step l c)) × (unhindered (run (nextLink l c) cs) ≡ true)
 unfolding unhindered all run
-first-unhindered l c cs u = both {x = not (among (number (step l c)) (6 ∷ 7 ∷ 8 ∷ 13 ∷ []))} {y = unhindered (run (nextLink l c) cs)} u
+first-unhindered l c cs u = both {x = not (among (number (step l c)) hindrances)} {y = unhindered (run (nextLink l c) cs)} u
 
 same-seen :
     (a : ℕ) (h : Holders) (l : Link) (h′ : Holders) (l′ : Link) (cs : List (List ℕ))

@@ -31,8 +31,11 @@ abbrev pub calls : List Exchange → List (List ℕ)
 calls es = map (λ (e : Exchange). e .call) es
 
 -- Was no call refused for a taken receipt (6) or a full table (7, 8, 13)?
+abbrev pub hindrances : List ℕ
+hindrances = 6 ∷ 7 ∷ 8 ∷ 13 ∷ []
+
 unfoldable pub unhindered : List Exchange → Bool
-unhindered es = all (λ (e : Exchange). not (among (e .number) (6 ∷ 7 ∷ 8 ∷ 13 ∷ []))) es
+unhindered es = all (λ (e : Exchange). not (among (e .number) hindrances)) es
 
 -- What demand 3 says of an address a, by the exchanges of a run and the receipts that it leaves.
 pub record SeesItsOwnPast (es : List Exchange) (ps : List Place) (a : ℕ) : Type 0 where

@@ -10,7 +10,7 @@ use Rattle.llc_rule.specs.Calls.{parsed}
 use Rattle.llc_rule.specs.Records.{Record, ssiOf, Sent}
 use Rattle.llc_rule.specs.Runs.{Exchange}
 use Rattle.llc_rule.specs.Past.{Holders, heldAfterCall, holders, whose, concerns, inPast, past, strays, holdersAfter}
-use Rattle.llc_rule.specs.Claim.{unhindered}
+use Rattle.llc_rule.specs.Claim.{hindrances, unhindered}
 use Rattle.llc_rule.specs.Sound.{All}
 use Rattle.llc_rule.specs.Sendings.{ends, handed, sendings}
 use Rattle.llc_rule.proofs.Lists.{by-test, if-false, keep-yes, keep-no}
@@ -80,7 +80,7 @@ holders-heard h es q =
 pub unhindered-heard : (es : List Exchange) → All Silent es → unhindered es ≡ unhindered (heard es)
 unfolding unhindered all any
 unhindered-heard es q =
-    let free : ℕ → Bool = λ (k : ℕ). not (among k (6 ∷ 7 ∷ 8 ∷ 13 ∷ [])) in
+    let free : ℕ → Bool = λ (k : ℕ). not (among k hindrances) in
     read-heard {S = Unit {0}} (λ u es. unhindered es)
     (λ s e es ds r. ap (λ (x : Bool). free (e .number) && x) (r tt))
     (λ s e es n g. ap (λ (k : ℕ). free k && unhindered es) n)
