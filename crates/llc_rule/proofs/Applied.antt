@@ -110,7 +110,7 @@ unfolding exchanges ruleRun atFirst dueOn requested afterData afterUnitdata afte
     toBytes openingCalls laterCalls
 answers = ruleRun atFirst (calls (pastOnce second nobody (run new instanceCalls)))
 
-pub answers-are : ruleRun atFirst (calls (past second nobody (run new instanceCalls))) ≡ answers
+answers-are : ruleRun atFirst (calls (past second nobody (run new instanceCalls))) ≡ answers
 unfolding answers ruleRun
 answers-are = ap (λ (es : List Exchange). ruleRun atFirst (calls es)) (past-once second nobody (run new instanceCalls))
 
@@ -120,29 +120,36 @@ parts k [] d e = absurd (omega (arith, e))
 parts zero (x ∷ l) d e = refl
 parts {A = A} (suc k) (x ∷ l) d e = ap (λ (m : List A). x ∷ m) (parts k l d (omega (arith, e)))
 
-nothing : Exchange
+-- Its fourth call is the request, which the rule accepts.
+abbrev nothing : Exchange
 nothing = record { call = []; number = 0; records = [] }
 
--- Its fourth call is the request: the rule accepts it, and hands it down four times.
-asked-fourth : requestOf (parsed (getD answers 3 nothing .call)) ≡ some secondRequest
+unfoldable pub fourth : Exchange
 unfolding answers
-asked-fourth = refl
+fourth = getD answers 3 nothing
 
-accepted-fourth : getD answers 3 nothing .number ≡ 0
-unfolding answers
-accepted-fourth = refl
+pub fourth-asks : requestOf (parsed (fourth .call)) ≡ some secondRequest
+unfolding fourth
+fourth-asks = refl
+
+pub fourth-accepted : fourth .number ≡ 0
+unfolding fourth
+fourth-accepted = refl
 
 enough : ltb 3 (length answers) ≡ true
 unfolding answers
 enough = refl
 
+pub answers-parts :
+    ruleRun atFirst (calls (past second nobody (run new instanceCalls))) ≡ take 3 answers ++ (fourth ∷ drop 4 answers)
+unfolding fourth
+answers-parts = answers-are ∙ parts 3 answers nothing (ltb-true 3 (length answers) enough)
+
+-- And it hands it down four times.
 pub four-by-rule : AtMostFour secondRequest (sendings 0x22 (drop 4 answers))
 four-by-rule =
     handed-down-by-rule .each instanceCalls unhindered-instance second .each
-    (take 3 answers) (getD answers 3 nothing) (drop 4 answers) secondRequest
-    (answers-are ∙ parts 3 answers nothing (ltb-true 3 (length answers) enough))
-    accepted-fourth
-    asked-fourth
+    (take 3 answers) fourth (drop 4 answers) secondRequest answers-parts fourth-accepted fourth-asks
 
 pub four-times-by-rule : eqb (length (sendings 0x22 (drop 4 answers))) 4 ≡ true
 unfolding answers sendings handed

@@ -85,13 +85,13 @@ module _ (store : List ℕ) (cs : List Lent) where
   abbrev onLink : List Exchange
   onLink = Rule.run new (putTo store cs)
 
-  past-is : (a : ℕ) (h : Holders) → past a h (run (begin store) cs) ≡ past a h onLink
+  pub past-is : (a : ℕ) (h : Holders) → past a h (run (begin store) cs) ≡ past a h onLink
   past-is a h = past-heard a h (run (begin store) cs) (silent (begin store) cs) ∙ ap (past a h) (as-step store cs .heard)
 
   strays-are : (a : ℕ) (h : Holders) → strays a h (run (begin store) cs) ≡ strays a h onLink
   strays-are a h = strays-heard a h (run (begin store) cs) (silent (begin store) cs) ∙ ap (strays a h) (as-step store cs .heard)
 
-  holders-are : holdersAfter nobody (run (begin store) cs) ≡ holdersAfter nobody onLink
+  pub holders-are : holdersAfter nobody (run (begin store) cs) ≡ holdersAfter nobody onLink
   holders-are =
       holders-heard nobody (run (begin store) cs) (silent (begin store) cs) ∙ ap (holdersAfter nobody) (as-step store cs .heard)
 
@@ -176,7 +176,7 @@ one-put c d later f =
     ∙ sym (fitting-yes d (c ∷ later) g))
     (λ g. fitting-no d later g ∙ sym (fitting-no c later f) ∙ sym (fitting-no d (c ∷ later) g))
 
-two-put :
+pub two-put :
     (c d : Lent) (later : List Lent)
     → fits c ≡ true
     → fits d ≡ true
@@ -184,7 +184,7 @@ two-put :
 two-put c d later f g = fitting-yes c (d ∷ later) f ∙ ap (λ (x : List (List ℕ)). c .call ∷ x) (fitting-yes d later g)
 
 -- Calls before others, on a store of the right length.
-put-right :
+pub put-right :
     (store : List ℕ) (before cs : List Lent) (ds : List (List ℕ))
     → eqb (length store) 32256 ≡ true
     → fitting cs ≡ ds
@@ -261,7 +261,7 @@ one-in-state store cs a =
     (one-under-way .onLink (putTo store cs) a)
 
 -- A request that is accepted was lent what is right.
-sendings-are :
+pub sendings-are :
     (i : ℕ) (s : Station) (c : Lent) (later : List Lent)
     → Asked s c
     → sendings i (run (left s c) later)

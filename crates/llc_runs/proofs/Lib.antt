@@ -4,3 +4,4 @@ pub mod Runs
 pub mod Outputs
 pub mod Claim
 pub mod Instance
+pub mod Applied

@@ -129,7 +129,7 @@ fitting-yes c cs f = ap (map (λ (x : Lent). x .call)) (keep-yes fits c cs f)
 pub fitting-no : (c : Lent) (cs : List Lent) → fits c ≡ false → fitting (c ∷ cs) ≡ fitting cs
 fitting-no c cs f = ap (map (λ (x : Lent). x .call)) (keep-no fits c cs f)
 
-right-is : (s : Station) (c : Lent) → Sane (s .state) (s .store) → lentRight (s .store) (c .out) ≡ fits c
+pub right-is : (s : Station) (c : Lent) → Sane (s .state) (s .store) → lentRight (s .store) (c .out) ≡ fits c
 unfolding lentRight
 right-is s c ok = ap (λ (b : Bool). b && fits c) (eq-eqb (length (s .store)) (8 * 32256) (ok .long))
 
