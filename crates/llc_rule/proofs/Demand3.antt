@@ -18,7 +18,7 @@ use Rattle.llc_rule.specs.Link.{Link, new, bitOf}
 use Rattle.llc_rule.specs.Step.{isStart, called, step}
 use Rattle.llc_rule.specs.Rule.{Own, atFirst, mayCome, judged, rule}
 use Rattle.llc_rule.specs.Runs.{left, given, Exchange, exchange, run, after}
-use Rattle.llc_rule.specs.Past.{Holders, nobody, heldAfterCall, holders, whoseIs, whose, concerns, inPast, past, strays, holdersAfter, isTickEnd, sight, isHolder, heldBy, takenFrom}
+use Rattle.llc_rule.specs.Past.{Holders, nobody, heldAfterCall, holders, whoseIs, whose, concerns, leftOut, inPast, past, strays, holdersAfter, isTickEnd, sight, isHolder, heldBy, takenFrom}
 use Rattle.llc_rule.specs.Claim.{ruleRun, ruleSights, ruleAfter, calls, hindrances, unhindered, Demand3}
 use Rattle.llc_rule.specs.Sound.{Sound, isNobody}
 use Rattle.llc_rule.proofs.Lists.{by-test, either, both}
@@ -93,7 +93,7 @@ mine a h l c ok u w = mine-by a h l c (step l c) refl (judged-is a h l (parsed c
 
 concerned : (a : ℕ) (h : Holders) (e : Exchange) → inPast a h e ≡ true → concerns a (whose h (e .call)) ≡ true
 unfolding inPast
-concerned a h e p = both {x = not (eqb (e .number) 1)} {y = concerns a (whose h (e .call))} p .1
+concerned a h e p = both {x = not (leftOut (e .number))} {y = concerns a (whose h (e .call))} p .1
 
 others-called :
     (a : ℕ) (h : Holders) (l : Link) (c : Outcome Call) (d : Done Link)
@@ -112,7 +112,7 @@ others-by :
     (a : ℕ) (h : Holders) (l : Link) (c : List ℕ) (o : Outcome (Done Link))
     → step l c ≡ o
     → Sound h l
-    → not (eqb (number o) 1) && concerns a (whose h c) ≡ false
+    → not (leftOut (number o)) && concerns a (whose h c) ≡ false
     → Others a h l c
 unfolding step whose holders keep
 others-by a h l c (accepted d) e ok p =

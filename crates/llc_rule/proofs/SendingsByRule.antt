@@ -21,7 +21,7 @@ use Rattle.llc_rule.specs.Link.{Link, new}
 use Rattle.llc_rule.specs.Step.{receiptFree, onData, onUnitdata, isStart, act, called, step}
 use Rattle.llc_rule.specs.Rule.{Own, atFirst, rule}
 use Rattle.llc_rule.specs.Runs.{Exchange, exchange, left, given, run}
-use Rattle.llc_rule.specs.Past.{Holders, nobody, holding, heldAfter, heldAfterCall, holders, whoseIs, whose, concerns, inPast, past, isTickEnd, Sight, sight}
+use Rattle.llc_rule.specs.Past.{Holders, nobody, holding, heldAfter, heldAfterCall, holders, whoseIs, whose, concerns, leftOut, inPast, past, isTickEnd, Sight, sight}
 use Rattle.llc_rule.specs.Claim.{ruleRun, ruleSights, calls}
 use Rattle.llc_rule.specs.Sound.{All, Sound, isNobody}
 use Rattle.llc_rule.specs.Sendings.{requestOf, ends, handed, sendings, AtMostFour, HandedDownByRule}
@@ -141,7 +141,7 @@ module _ (h : Holders) (l : Link) (sound : Sound h l) (i a : ℕ) (mine : h i �
   unfolding inPast whose
   past-ends e t =
       let b = both {x = eqb (e .number) 0} {y = ends i (parsed (e .call))} t in
-      and-true (ap (λ (k : ℕ). not (eqb k 1)) (eqb-true (e .number) 0 (b .0))) (ends-own (parsed (e .call)) (b .1))
+      and-true (ap (λ (k : ℕ). not (leftOut k)) (eqb-true (e .number) 0 (b .0))) (ends-own (parsed (e .call)) (b .1))
 
 -- Runs --------------------------------------------------------------------------------------------------------------------
 
@@ -214,7 +214,7 @@ unfolding inPast whose holders
 four-first a h l c cs r sound p n t =
     let e : Exchange = exchange c (step l c) in
     let l′ : Link = left l (step l c) in
-    let w = both {x = not (eqb (number (step l c)) 1)} {y = concerns a (whoseIs h (parsed c))} p .1 in
+    let w = both {x = not (leftOut (number (step l c)))} {y = concerns a (whoseIs h (parsed c))} p .1 in
     let mine : holders e h (r .receipt) ≡ some a =
     ap (λ (k : ℕ). cond (eqb k 0) (heldAfterCall (parsed c) h) h (r .receipt)) n ∙ held-request a h (parsed c) r w t in
     four-part r (sendings (r .receipt) (map (seenBy a) (past a (holders e h) (run l′ cs)))) (sendings (r .receipt) (run l′ cs))

@@ -14,7 +14,7 @@ use Rattle.llc_rule.specs.Link.{Link, new}
 use Rattle.llc_rule.specs.Step.{step}
 use Rattle.llc_rule.specs.Rule.{Own, rule}
 use Rattle.llc_rule.specs.Runs.{left, given, Exchange, exchange, run, after}
-use Rattle.llc_rule.specs.Past.{Holders, nobody, holders, belongsTo, holder's, whoseCall, whoseIs, whose, concerns, inPast, past, holdersAfter, Sight, sight, isHolder, takenFrom}
+use Rattle.llc_rule.specs.Past.{Holders, nobody, holders, belongsTo, holder's, whoseCall, whoseIs, whose, concerns, leftOut, inPast, past, holdersAfter, Sight, sight, isHolder, takenFrom}
 use Rattle.llc_rule.specs.Claim.{calls, hindrances, unhindered, Swap}
 use Rattle.llc_rule.specs.Sound.{Sound}
 use Rattle.llc_rule.proofs.Lists.{by-test, both, and-false}
@@ -47,7 +47,7 @@ skip :
     → SameFrom a h l (c ∷ cs) h′ l′ ds
 unfolding run after past holdersAfter inPast
 skip a h l c cs h′ l′ ds w s =
-    let p = and-false (not (eqb (number (step l c)) 1)) w in
+    let p = and-false (not (leftOut (number (step l c)))) w in
     record { same-calls = rw p (s .same-calls); same-sights = rw p (s .same-sights); same-own = s .same-own }
 
 -- A call that does concern it shows it the same on both links, where it has the same of both.
@@ -68,7 +68,7 @@ same-mine a h l h′ l′ c cs ds q w w′ m m′ s =
     let records : sight a e .records ≡ sight a e′ .records =
     m .records ∙ ap (λ (o : Own). given (rule o c)) q ∙ sym (m′ .records)
     in
-    let in-both : inPast a h e ≡ inPast a h′ e′ = ap₂ (λ (k : ℕ) (b : Bool). not (eqb k 1) && b) numbers (w ∙ sym w′) in
+    let in-both : inPast a h e ≡ inPast a h′ e′ = ap₂ (λ (k : ℕ) (b : Bool). not (leftOut k) && b) numbers (w ∙ sym w′) in
     by-test (inPast a h e)
     (λ p.
     record {
@@ -90,7 +90,7 @@ next-mine a h l h′ l′ c q m m′ = m .next ∙ ap (λ (o : Own). left o (rul
 
 others-here : (a : ℕ) (h : Holders) (l : Link) (c : List ℕ) → Sound h l → concerns a (whose h c) ≡ false → Others a h l c
 unfolding inPast
-others-here a h l c ok w = others a h l c ok (and-false (not (eqb (number (step l c)) 1)) w)
+others-here a h l c ok w = others a h l c ok (and-false (not (leftOut (number (step l c)))) w)
 
 concerns-holder : (a : ℕ) (w : Option ℕ) → concerns a (holder's w) ≡ isHolder a w
 concerns-holder a none = refl

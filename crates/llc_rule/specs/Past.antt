@@ -78,8 +78,11 @@ concerns a nobody's = false
 concerns a (belongsTo b) = eqb b a
 
 -- "An address's past is the starts, tick starts, tick ends and its own calls, in order, less those that got number 1."
+abbrev pub leftOut : ℕ → Bool
+leftOut n = eqb n 1
+
 unfoldable pub inPast : ℕ → Holders → Exchange → Bool
-inPast a h e = not (eqb (e .number) 1) && concerns a (whose h (e .call))
+inPast a h e = not (leftOut (e .number)) && concerns a (whose h (e .call))
 
 unfoldable pub past : ℕ → Holders → List Exchange → List Exchange
 past a h [] = []

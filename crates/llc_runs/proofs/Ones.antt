@@ -9,7 +9,7 @@ use Rattle.llc_rule.specs.Lists.{keep, any, all, among}
 use Rattle.llc_rule.specs.Calls.{parsed}
 use Rattle.llc_rule.specs.Records.{Record, ssiOf, Sent}
 use Rattle.llc_rule.specs.Runs.{Exchange}
-use Rattle.llc_rule.specs.Past.{Holders, heldAfterCall, holders, whose, concerns, inPast, past, strays, holdersAfter}
+use Rattle.llc_rule.specs.Past.{Holders, heldAfterCall, holders, whose, concerns, leftOut, inPast, past, strays, holdersAfter}
 use Rattle.llc_rule.specs.Claim.{hindrances, unhindered}
 use Rattle.llc_rule.specs.Sound.{All}
 use Rattle.llc_rule.specs.Sendings.{ends, handed, sendings}
@@ -45,7 +45,7 @@ holders-one e h n = if-false (heldAfterCall (parsed (e .call)) h) h (ap (λ (k :
 
 past-one : (a : ℕ) (h : Holders) (e : Exchange) → e .number ≡ 1 → inPast a h e ≡ false
 unfolding inPast
-past-one a h e n = ap (λ (k : ℕ). not (eqb k 1) && concerns a (whose h (e .call))) n
+past-one a h e n = ap (λ (k : ℕ). not (leftOut k) && concerns a (whose h (e .call))) n
 
 pub past-heard : (a : ℕ) (h : Holders) (es : List Exchange) → All Silent es → past a h es ≡ past a h (heard es)
 unfolding past
