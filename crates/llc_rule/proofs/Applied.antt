@@ -42,13 +42,19 @@ unfolding whose holders holdersAfter run toBytes exchanges openingCalls
 whose-first-then = refl
 
 -- They change places, and change back.
-pub swap-instance : (a : ℕ) → SeesTheSame a instanceCalls turnedCalls
+pub swap-instance :
+    (a : ℕ)
+    → SeesTheSame a
+    (run new instanceCalls) (after new instanceCalls .receipts) (run new turnedCalls) (after new turnedCalls .receipts)
 swap-instance =
     swap .each openingCalls askFirst askSecond laterCalls first second whose-first whose-second-then refl
     unhindered-instance
     unhindered-turned
 
-pub swap-turned : (a : ℕ) → SeesTheSame a turnedCalls instanceCalls
+pub swap-turned :
+    (a : ℕ)
+    → SeesTheSame a
+    (run new turnedCalls) (after new turnedCalls .receipts) (run new instanceCalls) (after new instanceCalls .receipts)
 swap-turned =
     swap .each openingCalls askSecond askFirst laterCalls second first whose-second whose-first-then refl
     unhindered-turned

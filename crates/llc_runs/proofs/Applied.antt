@@ -14,12 +14,12 @@ use Rattle.llc_rule.specs.Runs as Rule
 use Rattle.llc_rule.specs.Runs.{Exchange}
 use Rattle.llc_rule.specs.Past.{Holders, nobody, whose, past}
 use Rattle.llc_rule.specs.Claim as OnLink
-use Rattle.llc_rule.specs.Claim.{ruleRun, calls}
+use Rattle.llc_rule.specs.Claim.{ruleRun, calls, SeesTheSame}
 use Rattle.llc_rule.specs.Sendings.{sendings, AtMostFour}
 use Rattle.llc_rule.proofs.Instance.{first, second, askFirst, askSecond, openingCalls, instanceCalls}
 use Rattle.llc_rule.proofs.Applied.{whose-first, whose-second, whose-second-then, whose-first-then, secondRequest, is-request, asked, is-accepted, four-times, answers, fourth, fourth-asks, fourth-accepted, answers-parts}
 use Rattle.llc_runs.specs.Runs.{Lent, Station, begin, left, exchange, run, after}
-use Rattle.llc_runs.specs.Claim.{linkAt, whoseAfter, SeesTheSame}
+use Rattle.llc_runs.specs.Claim.{linkAt, receiptsAfter, whoseAfter}
 use Rattle.llc_runs.specs.Heard.{putTo}
 use Rattle.llc_runs.proofs.Runs.{Asked, asks, fitting-yes, right-is, follows, begin-right}
 use Rattle.llc_runs.proofs.Claim.{past-is, holders-are, put-right, sendings-are, claim}
@@ -48,7 +48,13 @@ second-put =
     ∙ ap (λ (x : List (List ℕ)). x ++ (askSecond ∷ [])) opening-put
 
 -- They change places, and change back.
-pub swap-lents : (a : ℕ) → SeesTheSame a zeroStore lents turnedLents
+pub swap-lents :
+    (a : ℕ)
+    → SeesTheSame a
+    (run (begin zeroStore) lents)
+    (receiptsAfter zeroStore lents)
+    (run (begin zeroStore) turnedLents)
+    (receiptsAfter zeroStore turnedLents)
 unfolding lentFirst lentSecond
 swap-lents =
     claim .swap zeroStore openingLents lentFirst lentSecond laterLents first second
@@ -58,7 +64,13 @@ swap-lents =
     unhindered-lents
     unhindered-turned-lents
 
-pub swap-turned-lents : (a : ℕ) → SeesTheSame a zeroStore turnedLents lents
+pub swap-turned-lents :
+    (a : ℕ)
+    → SeesTheSame a
+    (run (begin zeroStore) turnedLents)
+    (receiptsAfter zeroStore turnedLents)
+    (run (begin zeroStore) lents)
+    (receiptsAfter zeroStore lents)
 unfolding lentFirst lentSecond
 swap-turned-lents =
     claim .swap zeroStore openingLents lentSecond lentFirst laterLents second first
