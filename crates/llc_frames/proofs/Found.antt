@@ -9,9 +9,7 @@ use lib.Dec.{eqb, leb, ltb}
 use lib.ListN.{length, getD, take, drop, drop-of-length-le, length-take}
 use lib.Seq.{drop-cons, getD-take, length-take-le}
 use Rattle.tdma_time.specs.Slots.{valid}
-use Rattle.tx_receipt.specs.States.{is, number}
-use Rattle.tx_receipt.specs.declared.TxState.{TxState}
-use Rattle.tx_receipt.specs.declared.TxState.the-variants.{Transmitted, Acknowledged}
+use Rattle.tx_receipt.specs.Marks.{acknowledged, allowed}
 use Rattle.llc_rule.specs.Lists.{all, Found, nothing, first, behind, find}
 use Rattle.llc_rule.specs.Ranges.{isType, isReceipt}
 use Rattle.llc_rule.proofs.Lists.{by-test, both, if-true, if-false}
@@ -111,33 +109,31 @@ module _ (s : State) (i : ℕ) (nr : Bool) (long : s .«n_messages» ≤ length 
     finishes :
         (b : Bool)
         → fits nr entry ≡ b
-        → not b || (placeOf (s .receipts) (entry .receipt) .taken && is Transmitted (receiptOf (placeOf (s .receipts) (entry .receipt))))
+        → not b || (placeOf (s .receipts) (entry .receipt) .taken && allowed acknowledged (receiptOf (placeOf (s .receipts) (entry .receipt))))
         ≡ finishable nr (foundAt i (messagesOf s)) s
     finishes b e =
         let place : ReceiptPlace = placeOf (s .receipts) (entry .receipt) in
-        sym (ap (λ (f : Found Entry). finishable nr f s) found ∙ ap (λ (t : Bool). not t || (place .taken && is Transmitted (receiptOf place))) e)
+        sym (ap (λ (f : Found Entry). finishable nr f s) found ∙ ap (λ (t : Bool). not t || (place .taken && allowed acknowledged (receiptOf place))) e)
 
     pub unfit-finishes : fits nr entry ≡ false → true ≡ finishable nr (foundAt i (messagesOf s)) s
     unfit-finishes e = finishes false e
 
     pub fit-finishes :
-        (raw : ℕ) {state : TxState}
+        {r : Bool}
         → fits nr entry ≡ true
-        → state ≡ receiptOf (placeOf (s .receipts) (entry .receipt)) .state
-        → raw ≡ number state
-        → placeOf (s .receipts) (entry .receipt) .taken && eqb raw 2 ≡ finishable nr (foundAt i (messagesOf s)) s
-    fit-finishes raw e f g =
-        ap (λ (n : ℕ). placeOf (s .receipts) (entry .receipt) .taken && eqb n 2) (g ∙ ap number f) ∙ finishes true e
+        → r ≡ placeOf (s .receipts) (entry .receipt) .taken && allowed acknowledged (receiptOf (placeOf (s .receipts) (entry .receipt)))
+        → r ≡ finishable nr (foundAt i (messagesOf s)) s
+    fit-finishes e f = f ∙ finishes true e
 
     pub fit-answered :
         {r t : State}
         → fits nr entry ≡ true
         → t ≡ withMessages s (without i (messagesOf s))
-        → r ≡ markReceipt t (entry .receipt) Acknowledged
+        → r ≡ markReceipt t (entry .receipt) acknowledged
         → r ≡ answeredAt nr (foundAt i (messagesOf s)) s
     fit-answered e f g =
         g
-        ∙ ap (λ (u : State). markReceipt u (entry .receipt) Acknowledged) f
+        ∙ ap (λ (u : State). markReceipt u (entry .receipt) acknowledged) f
         ∙ sym (ap (λ (u : Found Entry). answeredAt nr u s) found ∙ if-true _ _ e)
 
     pub unfit-answered : fits nr entry ≡ false → withMessages s (fronted i (messagesOf s)) ≡ answeredAt nr (foundAt i (messagesOf s)) s

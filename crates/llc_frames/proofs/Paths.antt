@@ -12,7 +12,7 @@ use lib.ListN.{length, take, drop, length-take, length-drop}
 use Rattle.bits.specs.Bits.{bits, part}
 use Rattle.bits.proofs.Laws.{length-bits, part-take}
 use Rattle.questions.specs.Outcome.{Outcome, accepted, refused, ask}
-use Rattle.tx_receipt.specs.declared.TxState.the-variants.{Acknowledged}
+use Rattle.tx_receipt.specs.Marks.{acknowledged}
 use Rattle.llc_pdus.specs.Sdus.{sduAt, holding, handed, Part, numbered, handedBack}
 use Rattle.llc_pdus.specs.declared.Pdu.{Pdu}
 use Rattle.llc_pdus.specs.declared.Sdu.{Sdu}
@@ -105,7 +105,7 @@ unfolding answeredBy
 answered-is nr nothing ds s c = relaid-acks s ds (s .receipts) c
 answered-is nr (first e es) ds s c =
     ap₂ (cond (fits nr e))
-    (relaid-some s es ds (mark Acknowledged (e .receipt) (s .receipts)) c)
+    (relaid-some s es ds (mark acknowledged (e .receipt) (s .receipts)) c)
     (relaid-some s (e ∷ es) ds (s .receipts) c)
 
 -- A question passed, and one failed.

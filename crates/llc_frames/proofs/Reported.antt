@@ -8,8 +8,9 @@ use lib.Dec.{eqb}
 use lib.ListN.{set}
 use Rattle.questions.specs.Outcome.{Outcome, accepted, refused}
 use Rattle.tx_receipt.specs.States.{is, final}
-use Rattle.tx_receipt.specs.declared.TxState.{TxState}
-use Rattle.tx_receipt.specs.declared.TxState.the-variants.{Pending, Discarded, Transmitted}
+use Rattle.tx_receipt.specs.Marks as Marks
+use Rattle.tx_receipt.specs.Marks.{Mark}
+use Rattle.tx_receipt.specs.declared.TxState.the-variants.{Pending}
 use Rattle.llc_rule.specs.Records.{allBytes}
 use Rattle.llc_rule.proofs.Lists.{and-true, and-false}
 use Rattle.llc_state.specs.Receipts.{receiptOf, placeOf, mark, withPlaces}
@@ -63,21 +64,21 @@ module _ (s : State) (i : ℕ) {r : Answer} where
       refused-any 15 s (onReport i how s) e (λ store. rw no)
 
   marked-as :
-      (how : ℕ) (t : TxState)
+      (how : ℕ) (k : Mark)
       → Counts s
       → isPending s i ≡ true
       → waits i s ≡ false
-      → cond (eqb how 1) (mark Transmitted i (s .receipts)) (mark Discarded i (s .receipts)) ≡ mark t i (s .receipts)
-      → r ≡ answer 0 (withPlaces s (mark t i (s .receipts))) 0
+      → cond (eqb how 1) (mark Marks.transmitted i (s .receipts)) (mark Marks.discarded i (s .receipts)) ≡ mark k i (s .receipts)
+      → r ≡ answer 0 (withPlaces s (mark k i (s .receipts))) 0
       → WithAny r s (λ (store : List ℕ). onReport i how s store)
   unfolding onReport
-  marked-as how t c p w m e =
+  marked-as how k c p w m e =
       let yes : isPending s i && not (waits i s) ≡ true = and-true p (ap not w) in
-      accepted-any s (withPlaces s (mark t i (s .receipts))) (onReport i how s) e
+      accepted-any s (withPlaces s (mark k i (s .receipts))) (onReport i how s) e
       (λ store.
       rw yes
       (ap (λ (ps : List ReceiptPlace). accepted (kept (withReceipts s ps) store [])) m
-      ∙ ap (λ (u : State). accepted (kept u store [])) (relaid-places s (mark t i (s .receipts)) c)))
+      ∙ ap (λ (u : State). accepted (kept u store [])) (relaid-places s (mark k i (s .receipts)) c)))
 
   pub transmitted :
       (how : ℕ)
@@ -85,9 +86,9 @@ module _ (s : State) (i : ℕ) {r : Answer} where
       → isPending s i ≡ true
       → waits i s ≡ false
       → how ≡ 1
-      → r ≡ answer 0 (withPlaces s (mark Transmitted i (s .receipts))) 0
+      → r ≡ answer 0 (withPlaces s (mark Marks.transmitted i (s .receipts))) 0
       → WithAny r s (λ (store : List ℕ). onReport i how s store)
-  transmitted how c p w h e = marked-as how Transmitted c p w (rw (eq-eqb how 1 h)) e
+  transmitted how c p w h e = marked-as how Marks.transmitted c p w (rw (eq-eqb how 1 h)) e
 
   pub discarded :
       (how : ℕ)
@@ -95,9 +96,9 @@ module _ (s : State) (i : ℕ) {r : Answer} where
       → isPending s i ≡ true
       → waits i s ≡ false
       → (how ≡ 1 → ⊥)
-      → r ≡ answer 0 (withPlaces s (mark Discarded i (s .receipts))) 0
+      → r ≡ answer 0 (withPlaces s (mark Marks.discarded i (s .receipts))) 0
       → WithAny r s (λ (store : List ℕ). onReport i how s store)
-  discarded how c p w h e = marked-as how Discarded c p w (rw (ne-eqb how 1 h)) e
+  discarded how c p w h e = marked-as how Marks.discarded c p w (rw (ne-eqb how 1 h)) e
 
   -- A release of a receipt that is not final, or whose message is held; the receipt freed.
   pub not-final : isFinal s i ≡ false → r ≡ answer 16 s 0 → WithAny r s (λ (store : List ℕ). onRelease i s store)

@@ -3,7 +3,7 @@ use Prim.Native.Nat.{ℕ}
 use mathlib.Core.Bool.{Bool, cond}
 use mathlib.Core.List.{List, [], _∷_}
 use lib.ListN.{drop}
-use Rattle.tx_receipt.specs.declared.TxState.the-variants.{Acknowledged}
+use Rattle.tx_receipt.specs.Marks.{acknowledged}
 use Rattle.llc_rule.specs.Lists.{Found, nothing, first}
 use Rattle.llc_state.specs.Receipts.{markReceipt}
 use Rattle.llc_state.specs.declared.Entry.{Entry}
@@ -23,4 +23,4 @@ foundAt i l = foundIn (drop i l) (without i l)
 -- It finishes the message if it fits, else the message comes first in the queue.
 abbrev pub answeredAt : Bool → Found Entry → State → State
 answeredAt nr nothing s = s
-answeredAt nr (first e es) s = cond (fits nr e) (markReceipt (withMessages s es) (e .receipt) Acknowledged) (withMessages s (e ∷ es))
+answeredAt nr (first e es) s = cond (fits nr e) (markReceipt (withMessages s es) (e .receipt) acknowledged) (withMessages s (e ∷ es))

@@ -38,7 +38,6 @@ use llc_state::State;
 use llc_steps::Answer;
 use tdma_time::Moved;
 use tdma_time::TdmaTime;
-use tx_receipt::TxState;
 
 // The sequence numbers of a PDU.
 struct SeqNumbers {
@@ -174,7 +173,7 @@ fn fits(e: Entry, nr: bool) -> bool
     e.has_umac_done & (e.ns == nr)
 }
 
-// If an N(R) finishes the message of a place, is its receipt taken and Transmitted?
+// If an N(R) finishes the message of a place, is its receipt taken, and may it be marked as acknowledged?
 fn may_finish(state: State, i: usize, nr: bool) -> bool
     requires { ⌜ inRange state ≡ true ⌝ }
     ensures { λ r. ⌜ r ≡ finishable nr (foundAt i (messagesOf state)) state ⌝ }
@@ -188,8 +187,7 @@ fn may_finish(state: State, i: usize, nr: bool) -> bool
     }
     let receipt = e.receipt as usize;
     let place = state.receipts[receipt];
-    let tx = place.receipt();
-    place.taken & (tx.get_state().raw() == 2)
+    place.is_awaiting()
 }
 
 // An acknowledgement for the message of a place: it finishes the message, or the message goes back to the head of the queue.
@@ -204,7 +202,7 @@ fn process_incoming_ack(state: State, i: usize, nr: bool) -> State
     let e = state.outbound_messages[i];
     if fits(e, nr) {
         let receipt = e.receipt as usize;
-        return take_expected_ack(state, i).mark_receipt(receipt, TxState::Acknowledged);
+        return take_expected_ack(state, i).acknowledge_receipt(receipt);
     }
     push_front_expected_ack(state, i)
 }

@@ -10,7 +10,6 @@ use llc_queues::holds;
 use llc_queues::waits;
 use llc_state::State;
 use llc_steps::Answer;
-use tx_receipt::TxState;
 
 /// A report: 1 transmitted, 2 discarded.
 pub fn rx_tma_report_ind(mut state: State, receipt: u8, how: u8) -> Answer
@@ -28,10 +27,10 @@ pub fn rx_tma_report_ind(mut state: State, receipt: u8, how: u8) -> Answer
         return Answer::refused(15, state);
     }
     if how == 1 {
-        state.receipts[i] = place.marked(TxState::Transmitted);
+        state.receipts[i] = place.transmitted();
         return Answer::accepted(state, 0);
     }
-    state.receipts[i] = place.marked(TxState::Discarded);
+    state.receipts[i] = place.discarded();
     Answer::accepted(state, 0)
 }
 

@@ -10,7 +10,7 @@ use lib.Dec.{eqb}
 use lib.ListN.{length, set, length-set}
 use lib.Seq.{ext-getD}
 use Rattle.tdma_time.specs.declared.TdmaTime.{TdmaTime}
-use Rattle.tx_receipt.specs.declared.TxState.{TxState}
+use Rattle.tx_receipt.specs.Marks.{Mark}
 use Rattle.questions.specs.Outcome.{Outcome, accepted, refused}
 use Rattle.llc_rule.specs.Lists.{keep, any, Found, nothing, first, behind, find, others}
 use Rattle.llc_rule.specs.Records.{Record, ssiOf, Sent}
@@ -122,24 +122,24 @@ same-places : (x y : List Place) → length x ≡ length y → ((j : ℕ) → pl
 same-places x y e f = ext-getD free x y e (λ j _. f j)
 
 -- Marking a receipt of this address, and one of another.
-pub blank-mark : (a : ℕ) (h : Holders) (s : TxState) (i : ℕ) (ps : List Place) → isHolder a (h i) ≡ true → blank a h (mark s i ps) ≡ mark s i (blank a h ps)
-blank-mark a h s i ps e =
-    same-places (blank a h (mark s i ps)) (mark s i (blank a h ps))
-    (length-blank a h 0 (mark s i ps) ∙ length-mark s i ps ∙ sym (length-mark s i (blank a h ps) ∙ length-blank a h 0 ps))
+pub blank-mark : (a : ℕ) (h : Holders) (k : Mark) (i : ℕ) (ps : List Place) → isHolder a (h i) ≡ true → blank a h (mark k i ps) ≡ mark k i (blank a h ps)
+blank-mark a h k i ps e =
+    same-places (blank a h (mark k i ps)) (mark k i (blank a h ps))
+    (length-blank a h 0 (mark k i ps) ∙ length-mark k i ps ∙ sym (length-mark k i (blank a h ps) ∙ length-blank a h 0 ps))
     (λ j.
-    place-blank a h (mark s i ps) j
-    ∙ ap (λ (p : Place). cond (isHolder a (h j)) p free) (place-mark s ps i j)
+    place-blank a h (mark k i ps) j
+    ∙ ap (λ (p : Place). cond (isHolder a (h j)) p free) (place-mark k ps i j)
     ∙ by-test (eqb j i)
-    (λ q. rw (q, eqb-true j i q, e) (sym (place-mark s (blank a h ps) i i ∙ rw (eq-eqb i i refl, place-own a h ps i e))))
-    (λ q. rw q (sym (place-mark s (blank a h ps) i j ∙ rw (q, place-blank a h ps j)))))
+    (λ q. rw (q, eqb-true j i q, e) (sym (place-mark k (blank a h ps) i i ∙ rw (eq-eqb i i refl, place-own a h ps i e))))
+    (λ q. rw q (sym (place-mark k (blank a h ps) i j ∙ rw (q, place-blank a h ps j)))))
 
-pub blank-mark-other : (a : ℕ) (h : Holders) (s : TxState) (i : ℕ) (ps : List Place) → isHolder a (h i) ≡ false → blank a h (mark s i ps) ≡ blank a h ps
-blank-mark-other a h s i ps e =
-    same-places (blank a h (mark s i ps)) (blank a h ps)
-    (length-blank a h 0 (mark s i ps) ∙ length-mark s i ps ∙ sym (length-blank a h 0 ps))
+pub blank-mark-other : (a : ℕ) (h : Holders) (k : Mark) (i : ℕ) (ps : List Place) → isHolder a (h i) ≡ false → blank a h (mark k i ps) ≡ blank a h ps
+blank-mark-other a h k i ps e =
+    same-places (blank a h (mark k i ps)) (blank a h ps)
+    (length-blank a h 0 (mark k i ps) ∙ length-mark k i ps ∙ sym (length-blank a h 0 ps))
     (λ j.
-    place-blank a h (mark s i ps) j
-    ∙ ap (λ (p : Place). cond (isHolder a (h j)) p free) (place-mark s ps i j)
+    place-blank a h (mark k i ps) j
+    ∙ ap (λ (p : Place). cond (isHolder a (h j)) p free) (place-mark k ps i j)
     ∙ by-test (eqb j i) (λ q. rw (q, eqb-true j i q, e) (sym (place-blank a h ps i ∙ rw e))) (λ q. rw q (sym (place-blank a h ps j))))
 
 -- A receipt that this address takes or gives back, and one that another does.

@@ -7,7 +7,7 @@ use borrow.Author.Tests.{eqb-true, eqb-false, ltb-true, ltb-false}
 use lib.Dec.{eqb, ltb}
 use lib.ListN.{length, set, length-set, List·getD-eq-default}
 use lib.Seq.{getD-set-other, set-out}
-use Rattle.tx_receipt.specs.declared.TxState.{TxState}
+use Rattle.tx_receipt.specs.Marks.{Mark}
 use Rattle.llc_rule.specs.Messages.{Place, free, taken, placeAt, isFree, marked, mark}
 use Rattle.llc_rule.proofs.Lists.{by-test, getD-set}
 
@@ -23,29 +23,29 @@ place-other ps i j p h = getD-set-other ps i j p free (eqb-false j i h)
 
 -- A place that was marked, and another; also where there is none.
 pub place-mark :
-    (s : TxState) (ps : List Place) (i j : ℕ)
-    → placeAt (mark s i ps) j ≡ cond (eqb j i) (marked s (placeAt ps j)) (placeAt ps j)
-place-mark s ps i j =
+    (k : Mark) (ps : List Place) (i j : ℕ)
+    → placeAt (mark k i ps) j ≡ cond (eqb j i) (marked k (placeAt ps j)) (placeAt ps j)
+place-mark k ps i j =
     by-test (ltb i (length ps))
     (λ e.
-    place-set ps i j (marked s (placeAt ps i)) (ltb-true i (length ps) e)
+    place-set ps i j (marked k (placeAt ps i)) (ltb-true i (length ps) e)
     ∙ by-test (eqb j i) (λ q. rw (q, eqb-true j i q)) (λ q. rw q))
     (λ e.
     let beyond : length ps ≤ i = ltb-false i (length ps) e in
-    ap (λ (t : List Place). placeAt t j) (set-out ps i (marked s (placeAt ps i)) beyond)
+    ap (λ (t : List Place). placeAt t j) (set-out ps i (marked k (placeAt ps i)) beyond)
     ∙ by-test (eqb j i) (λ q. rw (q, eqb-true j i q, List·getD-eq-default ps free {n = i} beyond)) (λ q. rw q))
 
-pub length-mark : (s : TxState) (i : ℕ) (ps : List Place) → length (mark s i ps) ≡ length ps
-length-mark s i ps = length-set ps i (marked s (placeAt ps i))
+pub length-mark : (k : Mark) (i : ℕ) (ps : List Place) → length (mark k i ps) ≡ length ps
+length-mark k i ps = length-set ps i (marked k (placeAt ps i))
 
-free-marked : (s : TxState) (p : Place) → isFree (marked s p) ≡ isFree p
-free-marked s free = refl
-free-marked s (taken r) = refl
+free-marked : (k : Mark) (p : Place) → isFree (marked k p) ≡ isFree p
+free-marked k free = refl
+free-marked k (taken r) = refl
 
 -- A mark frees no place and takes none.
-pub mark-free : (s : TxState) (i : ℕ) (ps : List Place) (j : ℕ) → isFree (placeAt (mark s i ps) j) ≡ isFree (placeAt ps j)
-mark-free s i [] j = refl
-mark-free s zero (p ∷ ps) zero = free-marked s p
-mark-free s zero (p ∷ ps) (suc j) = refl
-mark-free s (suc i) (p ∷ ps) zero = refl
-mark-free s (suc i) (p ∷ ps) (suc j) = mark-free s i ps j
+pub mark-free : (k : Mark) (i : ℕ) (ps : List Place) (j : ℕ) → isFree (placeAt (mark k i ps) j) ≡ isFree (placeAt ps j)
+mark-free k i [] j = refl
+mark-free k zero (p ∷ ps) zero = free-marked k p
+mark-free k zero (p ∷ ps) (suc j) = refl
+mark-free k (suc i) (p ∷ ps) zero = refl
+mark-free k (suc i) (p ∷ ps) (suc j) = mark-free k i ps j

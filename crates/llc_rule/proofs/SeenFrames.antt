@@ -8,7 +8,7 @@ use borrow.Author.Tests.{eq-eqb, eqb-true, not-true}
 use lib.Dec.{eqb}
 use Rattle.questions.specs.Outcome.{accepted}
 use Rattle.questions.proofs.Asked.{accepted-passed}
-use Rattle.tx_receipt.specs.declared.TxState.the-variants.{Acknowledged}
+use Rattle.tx_receipt.specs.Marks as Marks
 use Rattle.llc_pdus.specs.declared.Pdu.{Pdu}
 use Rattle.llc_pdus.specs.declared.Pdu.the-variants.{BlAdata, BlData, BlUdata, BlAck}
 use Rattle.llc_rule.specs.Lists.{keep, any, Found, nothing, first, behind, find, others}
@@ -191,15 +191,15 @@ module _ (f : Frame) (h : Holders) (l : Link) (ok : Sound h l) where
       let was : ofAddress a (m ∷ xs) ≡ ofAddress a (l .acknowledged) =
       keep-yes (toSsi f) m xs (to-ssi m xs e) ∙ sym (ahead-first (ofAddress a (l .acknowledged)) (ok .ahead a) m (keep (toSsi f) xs) g)
       in
-      let gone : Link = linkWith xs ds (mark Acknowledged i (l .receipts)) in
+      let gone : Link = linkWith xs ds (mark Marks.acknowledged i (l .receipts)) in
       let moved : Link = linkWith (m ∷ xs) ds (l .receipts) in
-      let gone-own : Own = ownWith (ofAddress a xs) ks (mark Acknowledged i (blank a h (l .receipts))) in
+      let gone-own : Own = ownWith (ofAddress a xs) ks (mark Marks.acknowledged i (blank a h (l .receipts))) in
       let same-own : Own = ownWith (ofAddress a (l .acknowledged)) ks (blank a h (l .receipts)) in
       by-test (fits nr m)
       (λ u.
       ap (own a h) (if-true gone moved u)
-      ∙ own-with xs ds (mark Acknowledged i (l .receipts)) (ofAddress a xs) (mark Acknowledged i (blank a h (l .receipts))) refl
-      (blank-mark a h Acknowledged i (l .receipts) (is-holder m xs e))
+      ∙ own-with xs ds (mark Marks.acknowledged i (l .receipts)) (ofAddress a xs) (mark Marks.acknowledged i (blank a h (l .receipts))) refl
+      (blank-mark a h Marks.acknowledged i (l .receipts) (is-holder m xs e))
       ∙ sym (if-true gone-own same-own (and-true c u)))
       (λ u.
       ap (own a h) (if-false gone moved u)
@@ -275,13 +275,13 @@ module _ (a : ℕ) (f : Frame) (h : Holders) (l : Link) (ok : Sound h l) (other 
   answered-other nr ds nothing e d = same-with (l .acknowledged) ds (l .receipts) refl d refl
   answered-other nr ds (first m xs) e d =
       let i : ℕ = m .sent .receipt in
-      let gone : Link = withQueues l xs (l .unacknowledged) ds (mark Acknowledged i (l .receipts)) (l .rows) in
+      let gone : Link = withQueues l xs (l .unacknowledged) ds (mark Marks.acknowledged i (l .receipts)) (l .rows) in
       let moved : Link = withQueues l (m ∷ xs) (l .unacknowledged) ds (l .receipts) (l .rows) in
       by-test (fits nr m)
       (λ u.
       ap (own a h) (if-true gone moved u)
-      ∙ same-with xs ds (mark Acknowledged i (l .receipts)) (others-other m xs e) d
-      (blank-mark-other a h Acknowledged i (l .receipts) (holder-other m xs e)))
+      ∙ same-with xs ds (mark Marks.acknowledged i (l .receipts)) (others-other m xs e) d
+      (blank-mark-other a h Marks.acknowledged i (l .receipts) (holder-other m xs e)))
       (λ u.
       ap (own a h) (if-false gone moved u)
       ∙ same-with (m ∷ xs) ds (l .receipts)

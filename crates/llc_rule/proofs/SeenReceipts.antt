@@ -7,8 +7,8 @@ use mathlib.Core.Option.{none, some, Option·some-injective}
 use borrow.Author.Tests.{eq-eqb, eqb-true}
 use lib.Dec.{eqb}
 use lib.ListN.{length, set}
-use Rattle.tx_receipt.specs.declared.TxState.{TxState}
-use Rattle.tx_receipt.specs.declared.TxState.the-variants.{Discarded, Transmitted}
+use Rattle.tx_receipt.specs.Marks as Marks
+use Rattle.tx_receipt.specs.Marks.{Mark}
 use Rattle.llc_rule.specs.Lists.{keep, any}
 use Rattle.llc_rule.specs.Records.{Record, Sent}
 use Rattle.llc_rule.specs.Messages.{Message, Place, free, placeAt, mark}
@@ -62,18 +62,18 @@ module _ (a i : ℕ) (h : Holders) (l : Link) (who : h i ≡ some a) (ok : Sound
       (λ m o e. same-holder a i h (l .receipts) (m .sent) who o e) (ok .owned)))
       unacknowledged-with
 
-  receipts-own : (s : TxState) → own a h (withReceipts l (mark s i (l .receipts))) ≡ keeping (own a h l) (own a h l .bit) (own a h l .acknowledged) (own a h l .unacknowledged) (own a h l .due) (mark s i (own a h l .receipts))
+  receipts-own : (k : Mark) → own a h (withReceipts l (mark k i (l .receipts))) ≡ keeping (own a h l) (own a h l .bit) (own a h l .acknowledged) (own a h l .unacknowledged) (own a h l .due) (mark k i (own a h l .receipts))
   unfolding own
-  receipts-own s =
-      let places = blank-mark a h s i (l .receipts) is-holder in
-      own-parts a h h l (withReceipts l (mark s i (l .receipts))) refl refl refl refl refl places
+  receipts-own k =
+      let places = blank-mark a h k i (l .receipts) is-holder in
+      own-parts a h h l (withReceipts l (mark k i (l .receipts))) refl refl refl refl refl places
 
   pub report-own : (how : ℕ) → afterReport i how (own a h l) ≡ seenAs (own a h) (λ (rs : List Record). rs) (onReport i how l)
   unfolding afterReport onReport seenAs
   report-own how =
       rw (waits-own, place-is)
       (by-test (reportable i l)
-      (λ t. rw t (by-test (eqb how 1) (λ e. rw (e, receipts-own Transmitted, place-is)) (λ e. rw (e, receipts-own Discarded, place-is))))
+      (λ t. rw t (by-test (eqb how 1) (λ e. rw (e, receipts-own Marks.transmitted, place-is)) (λ e. rw (e, receipts-own Marks.discarded, place-is))))
       (λ t. rw t))
 
   freed-own : i < length (l .receipts) → own a (holding i none h) (withReceipts l (set (l .receipts) i free)) ≡ keeping (own a h l) (own a h l .bit) (own a h l .acknowledged) (own a h l .unacknowledged) (own a h l .due) (set (own a h l .receipts) i free)
@@ -90,17 +90,17 @@ module _ (a i : ℕ) (h : Holders) (l : Link) (who : h i ≡ some a) (ok : Sound
 
 -- Another address's report or release changes nothing of an address.
 module _ (a i : ℕ) (h : Holders) (l : Link) (other : isHolder a (h i) ≡ false) where
-  receipts-other : (s : TxState) → own a h (withReceipts l (mark s i (l .receipts))) ≡ own a h l
+  receipts-other : (k : Mark) → own a h (withReceipts l (mark k i (l .receipts))) ≡ own a h l
   unfolding own
-  receipts-other s =
-      let places = blank-mark-other a h s i (l .receipts) other in
-      own-parts a h h l (withReceipts l (mark s i (l .receipts))) refl refl refl refl refl places
+  receipts-other k =
+      let places = blank-mark-other a h k i (l .receipts) other in
+      own-parts a h h l (withReceipts l (mark k i (l .receipts))) refl refl refl refl refl places
 
   pub report-other :
       (how : ℕ)
-      → own a h (withReceipts l (cond (eqb how 1) (mark Transmitted i (l .receipts)) (mark Discarded i (l .receipts)))) ≡ own a h l
+      → own a h (withReceipts l (cond (eqb how 1) (mark Marks.transmitted i (l .receipts)) (mark Marks.discarded i (l .receipts)))) ≡ own a h l
   report-other how =
-      by-test (eqb how 1) (λ e. rw e (receipts-other Transmitted)) (λ e. rw e (receipts-other Discarded))
+      by-test (eqb how 1) (λ e. rw e (receipts-other Marks.transmitted)) (λ e. rw e (receipts-other Marks.discarded))
 
   pub release-other : i < length (l .receipts) → own a (holding i none h) (withReceipts l (set (l .receipts) i free)) ≡ own a h l
   unfolding own

@@ -7,8 +7,7 @@ use mathlib.Core.Option.{Option, none, some}
 use borrow.Author.Tests.{eqb-true, not-true}
 use lib.Dec.{eqb, ltb}
 use Rattle.tdma_time.specs.declared.TdmaTime.{TdmaTime}
-use Rattle.tx_receipt.specs.States.{is}
-use Rattle.tx_receipt.specs.declared.TxState.the-variants.{Pending, Transmitted, Lost}
+use Rattle.tx_receipt.specs.Marks as Marks
 use Rattle.llc_rule.specs.Lists.{keep, any, among, Visit, _then_, walk}
 use Rattle.llc_rule.specs.Records.{Record, acknowledged, unacknowledged, Sent}
 use Rattle.llc_rule.specs.Messages.{Message, submittedAfter, doneAt, hasTime, overdue, replyTo, Place, placeAt, taken?, mark, reported}
@@ -101,7 +100,7 @@ module _ (a : ℕ) (h : Holders) (time : TdmaTime) (t251 : ℕ) where
   resend-own ps m k e =
       λ i.
       record {
-        state = sym (blank-mark a h Pending (m .sent .receipt) ps k) i;
+        state = sym (blank-mark a h Marks.reset (m .sent .receipt) ps k) i;
         stays = sym (keep-yes (toMe a) (submittedAfter (suc (m .resends)) m) [] e) i;
         out = sym (keep-yes (about a) (acknowledged (m .sent)) [] e) i;
       }
@@ -112,13 +111,7 @@ module _ (a : ℕ) (h : Holders) (time : TdmaTime) (t251 : ℕ) where
       → leave (blank a h ps) m ≡ shown₁ (leave ps m)
   unfolding keep
   leave-own ps m k =
-      let r : ℕ = m .sent .receipt in
-      let places : cond (taken? (is Transmitted) (placeAt (blank a h ps) r)) (mark Lost r (blank a h ps)) (blank a h ps)
-      ≡ blank a h (cond (taken? (is Transmitted) (placeAt ps r)) (mark Lost r ps) ps) =
-      ap₂ (λ (p : Place) (qs : List Place). cond (taken? (is Transmitted) p) qs (blank a h ps)) (place-own a h ps r k) (sym (blank-mark a h Lost r ps k))
-      ∙ sym (ap-cond (blank a h) (taken? (is Transmitted) (placeAt ps r)) (mark Lost r ps) ps)
-      in
-      λ i. record { state = places i; stays = []; out = [] }
+      λ i. record { state = sym (blank-mark a h Marks.lost (m .sent .receipt) ps k) i; stays = []; out = [] }
 
   aged-own :
       (ps : List Place) (m : Message) (x : Option TdmaTime)
@@ -168,14 +161,12 @@ module _ (a : ℕ) (h : Holders) (time : TdmaTime) (t251 : ℕ) where
       either (Unseen₁ ps) (overdue time t251 t)
       (either (Unseen₁ ps) (ltb (m .resends) 3)
       (record {
-        state = blank-mark-other a h Pending (m .sent .receipt) ps k;
+        state = blank-mark-other a h Marks.reset (m .sent .receipt) ps k;
         stays = keep-no (toMe a) (submittedAfter (suc (m .resends)) m) [] e;
         out = keep-no (about a) (acknowledged (m .sent)) [] e;
       })
       (record {
-        state =
-            either (λ (qs : List Place). blank a h qs ≡ blank a h ps) (taken? (is Transmitted) (placeAt ps (m .sent .receipt)))
-            (blank-mark-other a h Lost (m .sent .receipt) ps k) refl;
+        state = blank-mark-other a h Marks.lost (m .sent .receipt) ps k;
         stays = refl;
         out = refl;
       }))
@@ -214,7 +205,7 @@ ownSending s m =
     (cond (s .blocked)
     (stay s m)
     (record {
-      state = record { receipts = mark Pending (m .sent .receipt) (s .receipts); blocked = true };
+      state = record { receipts = mark Marks.reset (m .sent .receipt) (s .receipts); blocked = true };
       stays = submittedAfter (m .resends) m ∷ [];
       out = acknowledged (m .sent) ∷ [];
     }))
@@ -241,7 +232,7 @@ module _ (a : ℕ) (h : Holders) where
       let going : Visit Sending Message Record = stay (record { receipts = s .receipts; blocked = bs }) m in
       let sending : Visit Sending Message Record =
       record {
-        state = record { receipts = mark Pending (m .sent .receipt) (s .receipts); blocked = bs };
+        state = record { receipts = mark Marks.reset (m .sent .receipt) (s .receipts); blocked = bs };
         stays = submittedAfter (m .resends) m ∷ [];
         out = acknowledged (m .sent) ∷ [];
       }
@@ -259,7 +250,7 @@ module _ (a : ℕ) (h : Holders) where
       in
       let sent-own : Visit OwnSending Message Record =
       record {
-        state = record { receipts = mark Pending (m .sent .receipt) (blank a h (s .receipts)); blocked = true };
+        state = record { receipts = mark Marks.reset (m .sent .receipt) (blank a h (s .receipts)); blocked = true };
         stays = submittedAfter (m .resends) m ∷ [];
         out = acknowledged (m .sent) ∷ [];
       }
@@ -269,7 +260,7 @@ module _ (a : ℕ) (h : Holders) where
       record {
         state =
             record {
-              receipts = sym (blank-mark a h Pending (m .sent .receipt) (s .receipts) k) i;
+              receipts = sym (blank-mark a h Marks.reset (m .sent .receipt) (s .receipts) k) i;
               blocked = among-own m (s .blocked) e i;
             };
         stays = sym (keep-yes (toMe a) (submittedAfter (m .resends) m) [] e) i;
@@ -304,7 +295,7 @@ module _ (a : ℕ) (h : Holders) where
         state =
             λ i.
             record {
-              receipts = blank-mark-other a h Pending (m .sent .receipt) (s .receipts) k i;
+              receipts = blank-mark-other a h Marks.reset (m .sent .receipt) (s .receipts) k i;
               blocked = among-other m (s .blocked) e i;
             };
         stays = keep-no (toMe a) (submittedAfter (m .resends) m) [] e;
@@ -364,7 +355,7 @@ submits ps (m ∷ ms) e =
     let going : Visit OwnSending Message Record = stay (record { receipts = ps; blocked = true }) m in
     let sending : Visit OwnSending Message Record =
     record {
-      state = record { receipts = mark Pending (m .sent .receipt) ps; blocked = true };
+      state = record { receipts = mark Marks.reset (m .sent .receipt) ps; blocked = true };
       stays = submittedAfter (m .resends) m ∷ [];
       out = acknowledged (m .sent) ∷ [];
     }
@@ -378,7 +369,7 @@ submits ps (m ∷ ms) e =
     (record { receipts = refl; stays = refl; out = refl }))
     (λ u.
     submits-by
-    (ap onward (if-false going sending u) ∙ ap (_then_ sending) (all-wait (mark Pending (m .sent .receipt) ps) ms rest))
+    (ap onward (if-false going sending u) ∙ ap (_then_ sending) (all-wait (mark Marks.reset (m .sent .receipt) ps) ms rest))
     (if-false kept (submitOldest ps (m ∷ ms)) (none-too u rest))
     (record { receipts = refl; stays = refl; out = refl }))
 

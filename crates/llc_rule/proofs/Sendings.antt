@@ -11,9 +11,8 @@ use lib.ListN.{length, set, length-append}
 use lib.Seq.{getD-set-same, getD-set-other}
 use Rattle.questions.specs.Outcome.{Outcome, accepted, refused, ask, number}
 use Rattle.tdma_time.specs.declared.TdmaTime.{TdmaTime}
-use Rattle.tx_receipt.specs.States.{is}
-use Rattle.tx_receipt.specs.declared.TxState.{TxState}
-use Rattle.tx_receipt.specs.declared.TxState.the-variants.{Pending, Discarded, Transmitted, Lost, Acknowledged}
+use Rattle.tx_receipt.specs.Marks as Marks
+use Rattle.tx_receipt.specs.Marks.{Mark}
 use Rattle.llc_pdus.specs.declared.Pdu.{Pdu}
 use Rattle.llc_pdus.specs.declared.Pdu.the-variants.{BlAdata, BlData, BlUdata, BlAck}
 use Rattle.llc_rule.specs.Lists.{among, Found, nothing, first, Visit, walk}
@@ -50,8 +49,8 @@ all-found P p l x xs z a =
 abbrev IsTaken : List Place → ℕ → Type 0
 IsTaken ps i = isFree (placeAt ps i) ≡ false
 
-mark-taken : (s : TxState) (ps : List Place) (j i : ℕ) → IsTaken ps i → IsTaken (mark s j ps) i
-mark-taken s ps j i h = mark-free s j ps i ∙ h
+mark-taken : (k : Mark) (ps : List Place) (j i : ℕ) → IsTaken ps i → IsTaken (mark k j ps) i
+mark-taken k ps j i h = mark-free k j ps i ∙ h
 
 -- What is put into a place frees no other.
 set-taken : (ps : List Place) (j i : ℕ) (p : Place) → eqb j i ≡ false → IsTaken ps i → IsTaken (set ps j p) i
@@ -276,10 +275,8 @@ aged-taken i time t251 ps m none h = h
 aged-taken i time t251 ps m (some t) h =
     by-choice TakenBy (overdue time t251 t)
     (λ e. by-choice TakenBy (ltb (m .resends) 3)
-    (λ f. mark-taken Pending ps (m .sent .receipt) i h)
-    (λ f. by-choice (λ (qs : List Place). IsTaken qs i) (taken? (is Transmitted) (placeAt ps (m .sent .receipt)))
-    (λ g. mark-taken Lost ps (m .sent .receipt) i h)
-    (λ g. h)))
+    (λ f. mark-taken Marks.reset ps (m .sent .receipt) i h)
+    (λ f. mark-taken Marks.lost ps (m .sent .receipt) i h))
     (λ e. h)
   where
     TakenBy : Visit (List Place) Message Record → Type 0
@@ -299,7 +296,7 @@ firstSending-taken i t m h =
     (λ e. h)
     (λ e. by-choice TakenBy (among (m .sent .ssi) (t .blocked))
     (λ f. h)
-    (λ f. mark-taken Pending (t .receipts) (m .sent .receipt) i h))
+    (λ f. mark-taken Marks.reset (t .receipts) (m .sent .receipt) i h))
   where
     TakenBy : Visit Sending Message Record → Type 0
     TakenBy v = IsTaken (v .state .receipts) i
@@ -410,8 +407,8 @@ module _ (i : ℕ) (s : Sent) (l : Link) (h : IsTaken (l .receipts) i) where
   onward-report j how =
       onward-ask 15 (reportable j l) _ λ b.
       by-choice (λ (ps : List Place). Onward i s l (accepted (done (withReceipts l ps) []))) (eqb how 1)
-      (λ c. record { queue = kept-same i s (l .acknowledged) [] refl; place = mark-taken Transmitted (l .receipts) j i h })
-      (λ c. record { queue = kept-same i s (l .acknowledged) [] refl; place = mark-taken Discarded (l .receipts) j i h })
+      (λ c. record { queue = kept-same i s (l .acknowledged) [] refl; place = mark-taken Marks.transmitted (l .receipts) j i h })
+      (λ c. record { queue = kept-same i s (l .acknowledged) [] refl; place = mark-taken Marks.discarded (l .receipts) j i h })
 
   onward-release : (j : ℕ) → eqb j i ≡ false → Onward i s l (onRelease j l)
   unfolding onRelease handed
@@ -441,7 +438,7 @@ module _ (i : ℕ) (s : Sent) (l : Link) (h : IsTaken (l .receipts) i) where
   onward-answeredBy p nr nothing out z e = record { queue = kept-same i s (l .acknowledged) out e; place = h }
   onward-answeredBy p nr (first m ms) out z e =
       by-choice (λ (k : Link). Onward i s l (accepted (done k out))) (fits nr m)
-      (λ b. record { queue = kept-found p m ms out z e .0; place = mark-taken Acknowledged (l .receipts) (m .sent .receipt) i h })
+      (λ b. record { queue = kept-found p m ms out z e .0; place = mark-taken Marks.acknowledged (l .receipts) (m .sent .receipt) i h })
       (λ b. record { queue = kept-found p m ms out z e .1; place = h })
 
   onward-answered :

@@ -12,8 +12,9 @@ use Rattle.questions.specs.Outcome.{Outcome, accepted, refused, ask, number}
 use Rattle.questions.proofs.Asked.{accepted-passed}
 use Rattle.tdma_time.specs.declared.TdmaTime.{TdmaTime}
 use Rattle.tx_receipt.specs.States.{is, final}
-use Rattle.tx_receipt.specs.declared.TxState.{TxState}
-use Rattle.tx_receipt.specs.declared.TxState.the-variants.{Pending, Discarded, Transmitted}
+use Rattle.tx_receipt.specs.Marks as Marks
+use Rattle.tx_receipt.specs.Marks.{Mark}
+use Rattle.tx_receipt.specs.declared.TxState.the-variants.{Pending}
 use Rattle.llc_pdus.specs.Headers.{Reading, reading, hasFcs, one, kindAt, lengthOf}
 use Rattle.llc_rule.specs.Lists.{keep, any}
 use Rattle.llc_rule.specs.Calls.{Call, start, tickStart, tickEnd, dataRequest, unitdataRequest, frame, report, release, Request, Frame, parsed}
@@ -90,7 +91,7 @@ sound-tick-start h l time s = search
 
 -- A mark on a receipt that no waiting message has.
 sound-marked :
-    (h : Holders) (l : Link) (t : TxState) (i : ℕ)
+    (h : Holders) (l : Link) (t : Mark) (i : ℕ)
     → waits i l ≡ false
     → Sound h l
     → Sound h (withReceipts l (mark t i (l .receipts)))
@@ -124,7 +125,7 @@ sound-report h l i how s d e =
     let a = accepted-passed 15 (reportable i l) (sym e) in
     let w = not-true (waits i l) (both {x = taken? (is Pending) (placeAt (l .receipts) i)} (a .0) .1) in
     sound-done h _ d (a .1)
-    (by-test (eqb how 1) (λ q. rw q (sound-marked h l Transmitted i w s)) (λ q. rw q (sound-marked h l Discarded i w s)))
+    (by-test (eqb how 1) (λ q. rw q (sound-marked h l Marks.transmitted i w s)) (λ q. rw q (sound-marked h l Marks.discarded i w s)))
 
 -- A place freed that no message needs.
 sound-freed :

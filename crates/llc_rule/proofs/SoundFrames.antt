@@ -10,8 +10,8 @@ use lib.Dec.{eqb}
 use lib.ListN.{length, length-append, length-set}
 use Rattle.questions.specs.Outcome.{Outcome, accepted, refused}
 use Rattle.questions.proofs.Asked.{accepted-passed}
-use Rattle.tx_receipt.specs.declared.TxState.{TxState}
-use Rattle.tx_receipt.specs.declared.TxState.the-variants.{Acknowledged}
+use Rattle.tx_receipt.specs.Marks as Marks
+use Rattle.tx_receipt.specs.Marks.{Mark}
 use Rattle.llc_rule.specs.Lists.{any, Found, nothing, first, find}
 use Rattle.llc_rule.specs.Calls.{Frame}
 use Rattle.llc_rule.specs.Received.{Received, received, nsOf, nrOf}
@@ -69,7 +69,7 @@ none-other m ms us h =
 
 -- The first message of the queue finished.
 sound-finished :
-    (h : Holders) (l : Link) (t : TxState) (m : Message) (ms : List Message)
+    (h : Holders) (l : Link) (t : Mark) (m : Message) (ms : List Message)
     → l .acknowledged ≡ m ∷ ms
     → Sound h l
     → Sound h (withQueues l ms (l .unacknowledged) (l .due) (mark t (m .sent .receipt) (l .receipts)) (l .rows))
@@ -116,7 +116,7 @@ sound-answered-by h l p nr (first m ms) q c s =
     let moved = sound-moved h l (c .front) m (c .back) (c .whole) (q m (c .passes)) s in
     rw (c .rest)
     (by-test (fits nr m)
-    (λ e. rw e (sound-finished h _ Acknowledged m (c .front ++ c .back) refl moved))
+    (λ e. rw e (sound-finished h _ Marks.acknowledged m (c .front ++ c .back) refl moved))
     (λ e. rw e moved))
 
 sound-answered : (h : Holders) (l : Link) (f : Frame) (nr : Option Bool) → Sound h l → Sound h (answered f nr l)

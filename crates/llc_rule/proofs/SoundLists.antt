@@ -10,7 +10,7 @@ use lib.Dec.{eqb}
 use lib.ListN.{length, set, length-append}
 use Rattle.questions.specs.Outcome.{accepted}
 use Rattle.tx_receipt.specs.States.{is}
-use Rattle.tx_receipt.specs.declared.TxState.{TxState}
+use Rattle.tx_receipt.specs.Marks.{Mark}
 use Rattle.tx_receipt.specs.declared.TxState.the-variants.{Pending}
 use Rattle.tx_receipt.specs.declared.TxReceipt.{TxReceipt}
 use Rattle.llc_rule.specs.Lists.{keep, any}
@@ -83,8 +83,8 @@ pending-taken t (taken r) h = refl
 pub other-pending : (ps : List Place) (i j : ℕ) → isFree (placeAt ps i) ≡ true → IsPending ps j → eqb j i ≡ false
 other-pending ps i j e w = other-place ps i j e (pending-taken (is Pending) (placeAt ps j) w)
 
-pub owned-marked : (h : Holders) (ps : List Place) (s : TxState) (i : ℕ) (t : Sent) → Owned h ps t → Owned h (mark s i ps) t
-owned-marked h ps s i t o = record { holder = o .holder; taken = mark-free s i ps (t .receipt) ∙ o .taken }
+pub owned-marked : (h : Holders) (ps : List Place) (k : Mark) (i : ℕ) (t : Sent) → Owned h ps t → Owned h (mark k i ps) t
+owned-marked h ps k i t o = record { holder = o .holder; taken = mark-free k i ps (t .receipt) ∙ o .taken }
 
 -- A receipt written and held by another: a message with another receipt is as it was.
 pub owned-other :

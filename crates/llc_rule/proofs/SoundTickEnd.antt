@@ -11,8 +11,9 @@ use lib.ListN.{length}
 use lib.Seq.{getD-set-other}
 use Rattle.tdma_time.specs.declared.TdmaTime.{TdmaTime}
 use Rattle.tx_receipt.specs.States.{is, number}
-use Rattle.tx_receipt.specs.declared.TxState.{TxState}
-use Rattle.tx_receipt.specs.declared.TxState.the-variants.{Pending, Transmitted, Lost}
+use Rattle.tx_receipt.specs.Marks as Marks
+use Rattle.tx_receipt.specs.Marks.{Mark}
+use Rattle.tx_receipt.specs.declared.TxState.the-variants.{Pending}
 use Rattle.llc_rule.specs.Lists.{keep, any, among, Visit, walk}
 use Rattle.llc_rule.specs.Records.{Record, acknowledged, Sent}
 use Rattle.llc_rule.specs.Messages.{Message, submittedAfter, doneAt, hasTime, overdue, Place, free, taken, placeAt, isFree, taken?, marked, mark, reported}
@@ -31,20 +32,16 @@ record Touched (i : ℕ) (ps ps′ : List Place) : Type 0 where
   free : (j : ℕ) → isFree (placeAt ps′ j) ≡ isFree (placeAt ps j)
   other : (j : ℕ) → eqb i j ≡ false → placeAt ps′ j ≡ placeAt ps j
 
-touched-mark : (s : TxState) (i : ℕ) (ps : List Place) → Touched i ps (mark s i ps)
-touched-mark s i ps =
+touched-mark : (k : Mark) (i : ℕ) (ps : List Place) → Touched i ps (mark k i ps)
+touched-mark k i ps =
     record {
-      long = length-mark s i ps;
-      free = mark-free s i ps;
-      other = λ j h. getD-set-other ps i j (marked s (placeAt ps i)) free (λ e. eqb-false i j h (sym e));
+      long = length-mark k i ps;
+      free = mark-free k i ps;
+      other = λ j h. getD-set-other ps i j (marked k (placeAt ps i)) free (λ e. eqb-false i j h (sym e));
     }
 
 untouched : (i : ℕ) (ps : List Place) → Touched i ps ps
 untouched i ps = record { long = refl; free = λ j. refl; other = λ j h. refl }
-
-touched-if : (b : Bool) (s : TxState) (i : ℕ) (ps : List Place) → Touched i ps (cond b (mark s i ps) ps)
-touched-if true s i ps = touched-mark s i ps
-touched-if false s i ps = untouched i ps
 
 -- A receipt that is Pending was not reported.
 not-reported : (p : Place) → taken? (is Pending) p ≡ true → taken? reported p ≡ false
@@ -216,14 +213,14 @@ visited-overdue :
     (cond o (cond r (resend ps n) (leave ps n)) (stay ps n) .stays)
 visited-overdue true true ps n s w =
     record {
-      touched = touched-mark Pending (n .sent .receipt) ps;
+      touched = touched-mark Marks.reset (n .sent .receipt) ps;
       remains =
           one (submittedAfter (suc (n .resends)) n) refl (sym s)
           (record { receipt = λ h. absurd (true≢false h); time = λ h. refl });
     }
 visited-overdue true false ps n s w =
     record {
-      touched = touched-if (taken? (is Transmitted) (placeAt ps (n .sent .receipt))) Lost (n .sent .receipt) ps;
+      touched = touched-mark Marks.lost (n .sent .receipt) ps;
       remains = nothing;
     }
 visited-overdue false r ps n s w = record { touched = untouched (n .sent .receipt) ps; remains = one n refl refl w }
@@ -351,7 +348,7 @@ sentFirst s m b c =
     (stay s m)
     (record {
       state =
-          record { receipts = mark Pending (m .sent .receipt) (s .receipts); blocked = m .sent .ssi ∷ s .blocked };
+          record { receipts = mark Marks.reset (m .sent .receipt) (s .receipts); blocked = m .sent .ssi ∷ s .blocked };
       stays = submittedAfter (m .resends) m ∷ [];
       out = acknowledged (m .sent) ∷ [];
     }))
@@ -364,7 +361,7 @@ visited-by s m true c w = record { touched = untouched (m .sent .receipt) (s .re
 visited-by s m false true w = record { touched = untouched (m .sent .receipt) (s .receipts); remains = one m refl tt w }
 visited-by s m false false w =
     record {
-      touched = touched-mark Pending (m .sent .receipt) (s .receipts);
+      touched = touched-mark Marks.reset (m .sent .receipt) (s .receipts);
       remains =
           one (submittedAfter (m .resends) m) refl tt
           (record { receipt = λ h. absurd (true≢false h); time = λ h. refl });

@@ -9,8 +9,8 @@ use lib.ListN.{getD, set, replicate}
 use Rattle.tdma_time.specs.Slots.{plus, minus}
 use Rattle.tdma_time.specs.declared.TdmaTime.{TdmaTime}
 use Rattle.tx_receipt.specs.States.{is, atLeast}
-use Rattle.tx_receipt.specs.Marks.{at}
-use Rattle.tx_receipt.specs.declared.TxState.{TxState}
+use Rattle.tx_receipt.specs.Marks as Marks
+use Rattle.tx_receipt.specs.Marks.{Mark}
 use Rattle.tx_receipt.specs.declared.TxState.the-variants.{Pending, Discarded, Transmitted}
 use Rattle.tx_receipt.specs.declared.TxReceipt.{TxReceipt}
 use Rattle.llc_pdus.specs.Headers.{header}
@@ -107,14 +107,14 @@ abbrev pub taken? : (TxReceipt → Bool) → Place → Bool
 taken? p free = false
 taken? p (taken r) = p r
 
--- A receipt that is taken, marked.
-abbrev pub marked : TxState → Place → Place
-marked s free = free
-marked s (taken r) = taken (at s r)
+-- A receipt that is taken, marked. A mark that the table does not allow leaves it as it was.
+abbrev pub marked : Mark → Place → Place
+marked k free = free
+marked k (taken r) = taken (Marks.marked k r .receipt)
 
 -- The receipt with a number, marked.
-abbrev pub mark : TxState → ℕ → List Place → List Place
-mark s i l = set l i (marked s (placeAt l i))
+abbrev pub mark : Mark → ℕ → List Place → List Place
+mark k i l = set l i (marked k (placeAt l i))
 
 -- "Whose receipt is Discarded or at least Transmitted."
 abbrev pub reported : TxReceipt → Bool

@@ -10,7 +10,9 @@ use Rattle.questions.specs.Outcome.{Outcome, accepted, refused, ask}
 use Rattle.tdma_time.specs.Slots as Slots
 use Rattle.tdma_time.specs.declared.TdmaTime.{TdmaTime}
 use Rattle.tx_receipt.specs.States.{is, final}
-use Rattle.tx_receipt.specs.declared.TxState.the-variants.{Pending, Discarded, Transmitted, Lost, Acknowledged}
+use Rattle.tx_receipt.specs.Marks as Marks
+use Rattle.tx_receipt.specs.Marks.{allowed}
+use Rattle.tx_receipt.specs.declared.TxState.the-variants.{Pending}
 use Rattle.llc_pdus.specs.declared.Pdu.{Pdu}
 use Rattle.llc_pdus.specs.declared.Pdu.the-variants.{BlAdata, BlData, BlUdata, BlAck}
 use Rattle.llc_rule.specs.Lists.{any, Found, nothing, first, find, others, Visit, walk}
@@ -152,12 +154,12 @@ onTime time t251 ps m (some t) =
     cond (overdue time t251 t)
     (cond (ltb (m .resends) 3)
     (record {
-      state = mark Pending (m .sent .receipt) ps;
+      state = mark Marks.reset (m .sent .receipt) ps;
       stays = submittedAfter (suc (m .resends)) m ∷ [];
       out = acknowledged (m .sent) ∷ [];
     })
     (record {
-      state = cond (taken? (is Transmitted) (placeAt ps (m .sent .receipt))) (mark Lost (m .sent .receipt) ps) ps;
+      state = mark Marks.lost (m .sent .receipt) ps;
       stays = [];
       out = [];
     }))
@@ -175,7 +177,7 @@ abbrev pub submitOldest : List Place → List Message → Visit (List Place) Mes
 submitOldest ps [] = record { state = ps; stays = []; out = [] }
 submitOldest ps (m ∷ ms) =
     record {
-      state = mark Pending (m .sent .receipt) ps;
+      state = mark Marks.reset (m .sent .receipt) ps;
       stays = submittedAfter (m .resends) m ∷ ms;
       out = acknowledged (m .sent) ∷ [];
     }
@@ -212,11 +214,12 @@ theOne o = find (λ (m : Message). m .submitted) (o .acknowledged)
 abbrev pub finishes : Frame → Bool → Message → Bool
 finishes f nr m = eqb (m .sent .carrier) (f .carrier) && (hasTime (m .done) && Bool·beq (m .ns) nr)
 
--- "14. If N(R) would finish a message, is its receipt Transmitted?"
+-- "14. If N(R) would finish a message, is its receipt Transmitted?" That is, may it be marked as acknowledged? In a run the
+-- receipt of an acknowledged message expects an acknowledgement; of one that does not the Rust panics.
 abbrev pub oneTransmitted : Frame → Bool → Found Message → Own → Bool
 oneTransmitted f nr nothing o = true
 oneTransmitted f nr (first m ms) o =
-    not (finishes f nr m) || taken? (is Transmitted) (placeAt (o .receipts) (m .sent .receipt))
+    not (finishes f nr m) || taken? (allowed Marks.acknowledged) (placeAt (o .receipts) (m .sent .receipt))
 
 abbrev pub canFinish : Frame → Option Bool → Own → Bool
 canFinish f none o = true
@@ -227,7 +230,7 @@ abbrev pub finished : Frame → Bool → Found Message → List Due → Own → 
 finished f nr nothing ds o = keeping o (o .bit) (o .acknowledged) (o .unacknowledged) ds (o .receipts)
 finished f nr (first m ms) ds o =
     cond (finishes f nr m)
-    (keeping o (o .bit) ms (o .unacknowledged) ds (mark Acknowledged (m .sent .receipt) (o .receipts)))
+    (keeping o (o .bit) ms (o .unacknowledged) ds (mark Marks.acknowledged (m .sent .receipt) (o .receipts)))
     (keeping o (o .bit) (o .acknowledged) (o .unacknowledged) ds (o .receipts))
 
 -- What N(R) does, with the acknowledgements that are then due.
@@ -258,7 +261,7 @@ afterReport i how o =
     (accepted
     (done
     (keeping o (o .bit) (o .acknowledged) (o .unacknowledged) (o .due)
-    (cond (eqb how 1) (mark Transmitted i (o .receipts)) (mark Discarded i (o .receipts))))
+    (cond (eqb how 1) (mark Marks.transmitted i (o .receipts)) (mark Marks.discarded i (o .receipts))))
     []))
 
 -- "16. Release: is the receipt taken, its message no longer held, and final?" "A release frees it."

@@ -8,7 +8,9 @@ use lib.ListN.{length, set}
 use Rattle.questions.specs.Outcome.{Outcome, accepted, refused, ask}
 use Rattle.tdma_time.specs.declared.TdmaTime.{TdmaTime}
 use Rattle.tx_receipt.specs.States.{is, final}
-use Rattle.tx_receipt.specs.declared.TxState.the-variants.{Pending, Discarded, Transmitted, Lost, Acknowledged}
+use Rattle.tx_receipt.specs.Marks as Marks
+use Rattle.tx_receipt.specs.Marks.{allowed}
+use Rattle.tx_receipt.specs.declared.TxState.the-variants.{Pending}
 use Rattle.llc_pdus.specs.declared.Pdu.{Pdu}
 use Rattle.llc_pdus.specs.declared.Pdu.the-variants.{BlAdata, BlData, BlUdata, BlAck}
 use Rattle.llc_rule.specs.Lists.{any, among, Found, nothing, first, find, others, Visit, walk}
@@ -116,10 +118,12 @@ awaiting f l =
 abbrev pub fits : Bool → Message → Bool
 fits nr m = hasTime (m .done) && Bool·beq (m .ns) nr
 
--- "14. If N(R) would finish a message, is its receipt Transmitted?"
+-- "14. If N(R) would finish a message, is its receipt Transmitted?" That is, may it be marked as acknowledged? In a run the
+-- receipt of an acknowledged message expects an acknowledgement; of one that does not the Rust panics.
 abbrev pub finishable : Bool → Found Message → Link → Bool
 finishable nr nothing l = true
-finishable nr (first m ms) l = not (fits nr m) || taken? (is Transmitted) (placeAt (l .receipts) (m .sent .receipt))
+finishable nr (first m ms) l =
+    not (fits nr m) || taken? (allowed Marks.acknowledged) (placeAt (l .receipts) (m .sent .receipt))
 
 abbrev pub mayFinish : Frame → Option Bool → Link → Bool
 mayFinish f none l = true
@@ -131,7 +135,7 @@ unfoldable pub answeredBy : Bool → Found Message → Link → Link
 answeredBy nr nothing l = l
 answeredBy nr (first m ms) l =
     cond (fits nr m)
-    (withQueues l ms (l .unacknowledged) (l .due) (mark Acknowledged (m .sent .receipt) (l .receipts)) (l .rows))
+    (withQueues l ms (l .unacknowledged) (l .due) (mark Marks.acknowledged (m .sent .receipt) (l .receipts)) (l .rows))
     (withQueues l (m ∷ ms) (l .unacknowledged) (l .due) (l .receipts) (l .rows))
 
 abbrev pub answered : Frame → Option Bool → Link → Link
@@ -175,7 +179,8 @@ reportable i l = taken? (is Pending) (placeAt (l .receipts) i) && not (waits i l
 unfoldable pub onReport : ℕ → ℕ → Link → Outcome (Done Link)
 onReport i how l =
     ask 15 (reportable i l)
-    (accepted (done (withReceipts l (cond (eqb how 1) (mark Transmitted i (l .receipts)) (mark Discarded i (l .receipts)))) []))
+    (accepted
+    (done (withReceipts l (cond (eqb how 1) (mark Marks.transmitted i (l .receipts)) (mark Marks.discarded i (l .receipts)))) []))
 
 -- "16. Release: is the receipt taken, its message no longer held, and final?"
 abbrev pub releasable : ℕ → Link → Bool
@@ -199,7 +204,7 @@ timed time ps m = cond (not (hasTime (m .done)) && taken? reported (placeAt ps (
 abbrev pub resend : List Place → Message → Visit (List Place) Message Record
 resend ps m =
     record {
-      state = mark Pending (m .sent .receipt) ps;
+      state = mark Marks.reset (m .sent .receipt) ps;
       stays = submittedAfter (suc (m .resends)) m ∷ [];
       out = acknowledged (m .sent) ∷ [];
     }
@@ -207,7 +212,7 @@ resend ps m =
 abbrev pub leave : List Place → Message → Visit (List Place) Message Record
 leave ps m =
     record {
-      state = cond (taken? (is Transmitted) (placeAt ps (m .sent .receipt))) (mark Lost (m .sent .receipt) ps) ps;
+      state = mark Marks.lost (m .sent .receipt) ps;
       stays = [];
       out = [];
     }
@@ -235,7 +240,7 @@ firstSending s m =
     (stay s m)
     (record {
       state =
-          record { receipts = mark Pending (m .sent .receipt) (s .receipts); blocked = m .sent .ssi ∷ s .blocked };
+          record { receipts = mark Marks.reset (m .sent .receipt) (s .receipts); blocked = m .sent .ssi ∷ s .blocked };
       stays = submittedAfter (m .resends) m ∷ [];
       out = acknowledged (m .sent) ∷ [];
     }))

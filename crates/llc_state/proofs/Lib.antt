@@ -1,5 +1,6 @@
 pub mod AllLoops
 pub mod InRange
+mod Lending
 pub mod Lengths
 pub mod Maps
 pub mod Places

@@ -4,7 +4,7 @@ use mathlib.Core.Bool.{Bool, true, cond}
 use mathlib.Core.List.{List}
 use lib.ListN.{getD, set}
 use Rattle.tx_receipt.specs.States.{number, numbered}
-use Rattle.tx_receipt.specs.declared.TxState.{TxState}
+use Rattle.tx_receipt.specs.Marks.{Mark, marked}
 use Rattle.tx_receipt.specs.declared.TxState.the-variants.{Pending}
 use Rattle.tx_receipt.specs.declared.TxReceipt.{TxReceipt}
 use Rattle.llc_state.specs.declared.ReceiptPlace.{ReceiptPlace}
@@ -34,23 +34,32 @@ withPlaces s ps =
 abbrev pub receiptOf : ReceiptPlace → TxReceipt
 receiptOf p = record { «expects_ack» = p .«expects_ack»; state = numbered (p .state) }
 
--- A place whose receipt is in another state, if it is taken; a place that is taken anew.
-abbrev pub markedPlace : TxState → ReceiptPlace → ReceiptPlace
-markedPlace state p =
-    cond (p .taken) (record { taken = true; «expects_ack» = p .«expects_ack»; state = number state }) p
+-- A place that a receipt has taken, and one that a request has.
+abbrev pub takenBy : TxReceipt → ReceiptPlace
+takenBy r = record { taken = true; «expects_ack» = r .«expects_ack»; state = number (r .state) }
+
+abbrev pub requested : Bool → TxReceipt
+requested expects = record { «expects_ack» = expects; state = Pending }
 
 abbrev pub pendingPlace : Bool → ReceiptPlace
-pendingPlace expects = record { taken = true; «expects_ack» = expects; state = number Pending }
+pendingPlace expects = takenBy (requested expects)
+
+-- A place with another receipt, and with its receipt marked, if it is taken.
+abbrev pub withReceipt : TxReceipt → ReceiptPlace → ReceiptPlace
+withReceipt r p = cond (p .taken) (takenBy r) p
+
+abbrev pub markedPlace : Mark → ReceiptPlace → ReceiptPlace
+markedPlace k p = withReceipt (marked k (receiptOf p) .receipt) p
 
 -- The place with a number, and the places with the receipt there marked if it is taken.
 abbrev pub placeOf : List ReceiptPlace → ℕ → ReceiptPlace
 placeOf ps i = getD ps i noReceipt
 
-abbrev pub mark : TxState → ℕ → List ReceiptPlace → List ReceiptPlace
-mark state i ps = set ps i (markedPlace state (placeOf ps i))
+abbrev pub mark : Mark → ℕ → List ReceiptPlace → List ReceiptPlace
+mark k i ps = set ps i (markedPlace k (placeOf ps i))
 
-abbrev pub markReceipt : State → ℕ → TxState → State
-markReceipt s i state = withPlaces s (mark state i (s .receipts))
+abbrev pub markReceipt : State → ℕ → Mark → State
+markReceipt s i k = withPlaces s (mark k i (s .receipts))
 
 abbrev pub takeReceipt : State → ℕ → Bool → State
 takeReceipt s i expects = withPlaces s (set (s .receipts) i (pendingPlace expects))

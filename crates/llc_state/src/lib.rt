@@ -1,4 +1,5 @@
 // The state of the basic link by value, from tetra-entities' llc_bs_ms.rs, and question 1 of its values.
+mod marks;
 mod ranges;
 mod receipts;
 mod starts;

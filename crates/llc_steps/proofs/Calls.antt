@@ -8,7 +8,9 @@ use lib.Dec.{eqb, ltb}
 use lib.ListN.{set, length-map}
 use Rattle.questions.specs.Outcome.{Outcome, accepted, refused, ask}
 use Rattle.tx_receipt.specs.States.{is, final}
-use Rattle.tx_receipt.specs.declared.TxState.the-variants.{Pending, Discarded, Transmitted, Acknowledged}
+use Rattle.tx_receipt.specs.Marks as Marks
+use Rattle.tx_receipt.specs.Marks.{allowed}
+use Rattle.tx_receipt.specs.declared.TxState.the-variants.{Pending}
 use Rattle.llc_rule.specs.Lists.{Found, nothing, first}
 use Rattle.llc_rule.specs.Calls.{Frame}
 use Rattle.llc_rule.specs.Records.{Sent}
@@ -70,10 +72,10 @@ module _ (s : State) (store : List ℕ) where
       kept-ask 15 (placeOf ps i .taken && is Pending (receiptOf (placeOf ps i)) && not (waits i s)) _
       ∙ ap₂ (λ (b : Bool) (l : Link.Link). ask 15 b (accepted (done l [])))
       (ap₂ (λ (x y : Bool). x && not y) (taken-in (is Pending) ps i) (sym (waits-in i)))
-      (receipts-in (cond (eqb how 1) (mark Transmitted i ps) (mark Discarded i ps))
+      (receipts-in (cond (eqb how 1) (mark Marks.transmitted i ps) (mark Marks.discarded i ps))
       ∙ ap (Link.withReceipts (linkIn s store))
-      (ap-cond (map placeIn) (eqb how 1) (mark Transmitted i ps) (mark Discarded i ps)
-      ∙ ap₂ (cond (eqb how 1)) (mark-in Transmitted i ps) (mark-in Discarded i ps)))
+      (ap-cond (map placeIn) (eqb how 1) (mark Marks.transmitted i ps) (mark Marks.discarded i ps)
+      ∙ ap₂ (cond (eqb how 1)) (mark-in Marks.transmitted i ps) (mark-in Marks.discarded i ps)))
 
   pub release-in : (i : ℕ) → keptIn (onRelease i s store) ≡ Step.onRelease i (linkIn s store)
   unfolding onRelease Step.onRelease keptIn linkIn
@@ -111,7 +113,7 @@ module _ (f : Frame) (s : State) (store : List ℕ) (ok : Counted s) where
   unfolding linkIn messageIn sentIn
   finishable-in nr nothing = refl
   finishable-in nr (first e es) =
-      ap₂ (λ (x y : Bool). not x || y) (fits-in nr e) (taken-in (is Transmitted) (s .receipts) (e .receipt))
+      ap₂ (λ (x y : Bool). not x || y) (fits-in nr e) (taken-in (allowed Marks.acknowledged) (s .receipts) (e .receipt))
 
   may-finish-in : (x : Option Bool) → mayFinish f x s ≡ Step.mayFinish f x (linkIn s store)
   may-finish-in none = refl
@@ -133,16 +135,16 @@ module _ (f : Frame) (s : State) (store : List ℕ) (ok : Counted s) where
   unfolding answeredBy Step.answeredBy linkIn messageIn sentIn
   answered-by-in nr nothing ds = with-in (messagesOf s) ds (s .receipts)
   answered-by-in nr (first e es) ds =
-      let gone : State = relaid s es (udataOf s) ds (mark Acknowledged (e .receipt) (s .receipts)) (rowsOf s) in
+      let gone : State = relaid s es (udataOf s) ds (mark Marks.acknowledged (e .receipt) (s .receipts)) (rowsOf s) in
       let moved : State = relaid s (e ∷ es) (udataOf s) ds (s .receipts) (rowsOf s) in
       ap-cond (λ (t : State). linkIn t store) (fits nr e) gone moved
       ∙ (λ i.
       cond (fits-in nr e i)
-      ((with-in es ds (mark Acknowledged (e .receipt) (s .receipts))
+      ((with-in es ds (mark Marks.acknowledged (e .receipt) (s .receipts))
       ∙ ap
       (λ (ps : List Place).
       Link.withQueues (linkIn s store) (map (messageIn store) es) (linkIn s store .unacknowledged) (map dueIn ds) ps (linkIn s store .rows))
-      (mark-in Acknowledged (e .receipt) (s .receipts))) i)
+      (mark-in Marks.acknowledged (e .receipt) (s .receipts))) i)
       (with-in (e ∷ es) ds (s .receipts) i))
 
   answered-in :

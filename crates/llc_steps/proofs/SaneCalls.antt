@@ -15,7 +15,8 @@ use Rattle.tdma_time.specs.declared.TdmaTime.{TdmaTime}
 use Rattle.tdma_time.proofs.Laws.{plus-valid}
 use Rattle.tdma_time.proofs.Range as Time
 use Rattle.tx_receipt.specs.States.{is, final}
-use Rattle.tx_receipt.specs.declared.TxState.the-variants.{Pending, Discarded, Transmitted, Acknowledged}
+use Rattle.tx_receipt.specs.Marks as Marks
+use Rattle.tx_receipt.specs.declared.TxState.the-variants.{Pending}
 use Rattle.llc_rule.specs.Lists.{Found, nothing, first}
 use Rattle.llc_rule.specs.Calls.{Frame}
 use Rattle.llc_rule.specs.Messages.{slotBefore}
@@ -82,7 +83,7 @@ module _ (f : Frame) (s : State) (store : List ℕ) (ok : Sane s store) (ssi : f
   answered-by-sane nr p (first e es) ds by d =
       let moved = found-first entryInRange 64 p (messagesOf s) e es by (messages-used s store ok) in
       either (λ (t : State). Sane t store) (fits nr e)
-      (with-sane es ds _ (behind-first entryInRange 64 e es moved) d (marked-full Acknowledged (e .receipt) (s .receipts) (places-full s store ok)))
+      (with-sane es ds _ (behind-first entryInRange 64 e es moved) d (marked-full Marks.acknowledged (e .receipt) (s .receipts) (places-full s store ok)))
       (with-sane (e ∷ es) ds (s .receipts) moved d (places-full s store ok))
 
   answered-sane : (x : Option Bool) (ds : List ScheduledOutAck) → Used ackInRange 64 ds → Sane (answered f x ds s) store
@@ -109,8 +110,8 @@ module _ (s : State) (store : List ℕ) (ok : Sane s store) where
       (λ t.
       receipts-sane s store ok _
       (either Full (eqb how 1)
-      (marked-full Transmitted i (s .receipts) (places-full s store ok))
-      (marked-full Discarded i (s .receipts) (places-full s store ok))))
+      (marked-full Marks.transmitted i (s .receipts) (places-full s store ok))
+      (marked-full Marks.discarded i (s .receipts) (places-full s store ok))))
 
   pub release-sane : (i : ℕ) → SaneAfter (onRelease i s store)
   unfolding onRelease

@@ -9,6 +9,7 @@ use lib.ListN.{length, set, take, length-append, length-set}
 use lib.Seq.{length-take-le}
 use Rattle.questions.specs.Outcome.{Outcome, ask}
 use Rattle.tx_receipt.specs.States.{number}
+use Rattle.tx_receipt.specs.Marks.{Mark, marked}
 use Rattle.tx_receipt.specs.declared.TxState.{TxState}
 use Rattle.tx_receipt.specs.declared.TxState.the-variants.{Pending, Discarded, Transmitted, Lost, Acknowledged}
 use Rattle.llc_rule.specs.Lists.{all, Found, nothing, first, others}
@@ -16,7 +17,7 @@ use Rattle.llc_rule.specs.Sound.{All}
 use Rattle.llc_rule.proofs.Lists.{by-test, both, and-true, all-append, Split, FoundBy}
 use Rattle.llc_rule.proofs.SoundLists.{all-middle}
 use Rattle.llc_state.specs.Ranges.{entryInRange, ackInRange, rowInRange, placeInRange}
-use Rattle.llc_state.specs.Receipts.{placeOf, pendingPlace, markedPlace, mark}
+use Rattle.llc_state.specs.Receipts.{receiptOf, placeOf, pendingPlace, markedPlace, mark}
 use Rattle.llc_state.specs.States.{noEntry, noAck, noReceipt, noRow}
 use Rattle.llc_state.specs.declared.Entry.{Entry}
 use Rattle.llc_state.specs.declared.ScheduledOutAck.{ScheduledOutAck}
@@ -106,9 +107,9 @@ pub set-full : (i : ℕ) (x : ReceiptPlace) (ps : List ReceiptPlace) → placeIn
 set-full i x ps e f = record { long = length-set ps i x ∙ f .long; each = all-set placeInRange ps i x e (f .each) }
 
 -- A receipt that was marked, one that is pending, and none.
-marked-in-range : (state : TxState) (p : ReceiptPlace) → placeInRange (markedPlace state p) ≡ true
+marked-in-range : (k : Mark) (p : ReceiptPlace) → placeInRange (markedPlace k p) ≡ true
 unfolding placeInRange
-marked-in-range state p = by-test (p .taken) (λ t. rw t (by-state state)) (λ f. rw f)
+marked-in-range k p = by-test (p .taken) (λ t. rw t (by-state (marked k (receiptOf p) .receipt .state))) (λ f. rw f)
   where
     by-state : (x : TxState) → ltb (number x) 5 ≡ true
     by-state Pending = refl
@@ -117,8 +118,8 @@ marked-in-range state p = by-test (p .taken) (λ t. rw t (by-state state)) (λ f
     by-state Lost = refl
     by-state Acknowledged = refl
 
-pub marked-full : (state : TxState) (i : ℕ) (ps : List ReceiptPlace) → Full ps → Full (mark state i ps)
-marked-full state i ps f = set-full i (markedPlace state (placeOf ps i)) ps (marked-in-range state (placeOf ps i)) f
+pub marked-full : (k : Mark) (i : ℕ) (ps : List ReceiptPlace) → Full ps → Full (mark k i ps)
+marked-full k i ps f = set-full i (markedPlace k (placeOf ps i)) ps (marked-in-range k (placeOf ps i)) f
 
 pub pending-full : (expects : Bool) (i : ℕ) (ps : List ReceiptPlace) → Full ps → Full (set ps i (pendingPlace expects))
 unfolding placeInRange

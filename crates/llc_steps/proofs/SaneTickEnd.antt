@@ -9,8 +9,7 @@ use lib.Dec.{eqb, leb, ltb}
 use lib.ListN.{length, length-append}
 use Rattle.tdma_time.specs.Slots.{valid}
 use Rattle.tdma_time.specs.declared.TdmaTime.{TdmaTime}
-use Rattle.tx_receipt.specs.States.{is}
-use Rattle.tx_receipt.specs.declared.TxState.the-variants.{Pending, Transmitted, Lost}
+use Rattle.tx_receipt.specs.Marks as Marks
 use Rattle.llc_rule.specs.Lists.{among, Visit, walk}
 use Rattle.llc_rule.specs.Messages.{overdue, reported}
 use Rattle.llc_rule.specs.Ranges.{isType, isReceipt}
@@ -108,7 +107,6 @@ aged-visited :
     → entryInRange e ≡ true
     → Visited entryInRange Full 1 (aged time t251 ps e)
 aged-visited time t251 ps e n h =
-    let gone : Bool = placeOf ps (e .receipt) .taken && is Transmitted (receiptOf (placeOf ps (e .receipt))) in
     either (Visited entryInRange Full 1) (e .«has_umac_done» && overdue time t251 (e .«t_umac_done»))
     (by-choice (Visited entryInRange Full 1) (ltb (e .«retransmit_count») 3)
     (λ t.
@@ -117,9 +115,9 @@ aged-visited time t251 ps e n h =
           one-stays entryInRange (submitted (e .«retransmit_count» + 1) e)
           (submitted-in-range (e .«retransmit_count» + 1) e
           (le-leb (e .«retransmit_count» + 1) 3 (omega (arith, ltb-true (e .«retransmit_count») 3 t))) h);
-      state = marked-full Pending (e .receipt) ps n;
+      state = marked-full Marks.reset (e .receipt) ps n;
     })
-    (λ f. record { stays = none-used entryInRange 1; state = either Full gone (marked-full Lost (e .receipt) ps n) n }))
+    (λ f. record { stays = none-used entryInRange 1; state = marked-full Marks.lost (e .receipt) ps n }))
     (record { stays = one-stays entryInRange e h; state = n })
 
 retransmission-visited :
@@ -147,7 +145,7 @@ first-visited s e n h =
       stays =
           one-stays entryInRange (submitted (e .«retransmit_count») e)
           (submitted-in-range (e .«retransmit_count») e (entry-tells e h .count) h);
-      state = marked-full Pending (e .receipt) (s .receipts) n;
+      state = marked-full Marks.reset (e .receipt) (s .receipts) n;
     }))
 
 -- Both passes, and the state after them.

@@ -7,8 +7,7 @@ use mathlib.Core.List.{List, [], _∷_, _++_, map}
 use mathlib.Core.Option.{none, some}
 use lib.Dec.{ltb}
 use Rattle.tdma_time.specs.declared.TdmaTime.{TdmaTime}
-use Rattle.tx_receipt.specs.States.{is}
-use Rattle.tx_receipt.specs.declared.TxState.the-variants.{Pending, Transmitted, Lost}
+use Rattle.tx_receipt.specs.Marks as Marks
 use Rattle.llc_rule.specs.Lists.{among, Visit, _then_, walk}
 use Rattle.llc_rule.specs.Records.{Record, acknowledged, unacknowledged}
 use Rattle.llc_rule.specs.Messages as Rule
@@ -78,20 +77,14 @@ module _ (store : List ℕ) where
   resend-in ps e =
       λ i.
       record {
-        state = sym (mark-in Pending (e .receipt) ps) i;
+        state = sym (mark-in Marks.reset (e .receipt) ps) i;
         stays = messageIn store (submitted (sym (add-one (e .«retransmit_count»)) i) e) ∷ [];
         out = handed e ∷ [];
       }
 
   leave-in : (ps : List ReceiptPlace) (e : Entry) → Step.leave (map placeIn ps) (messageIn store e) ≡ viewed₁ (leave ps e)
   unfolding messageIn sentIn frameIn
-  leave-in ps e =
-      let test : Bool = placeOf ps (e .receipt) .taken && is Transmitted (receiptOf (placeOf ps (e .receipt))) in
-      let places =
-      ap₂ (λ (x : Bool) (qs : List Place). cond x qs (map placeIn ps)) (sym (taken-in (is Transmitted) ps (e .receipt))) (sym (mark-in Lost (e .receipt) ps))
-      ∙ sym (ap-cond (map placeIn) test (mark Lost (e .receipt) ps) ps)
-      in
-      λ i. record { state = places i; stays = []; out = [] }
+  leave-in ps e = λ i. record { state = sym (mark-in Marks.lost (e .receipt) ps) i; stays = []; out = [] }
 
   aged-by :
       (time : TdmaTime) (t251 : ℕ) (ps : List Place) (m : Message) (b : Bool) (t : TdmaTime)
@@ -134,7 +127,7 @@ module _ (store : List ℕ) where
       let going : Visit Sending Entry Entry = stay (record { receipts = s .receipts; blocked = e .ssi ∷ s .blocked }) e in
       let sending : Visit Sending Entry Entry =
       record {
-        state = record { receipts = mark Pending (e .receipt) (s .receipts); blocked = e .ssi ∷ s .blocked };
+        state = record { receipts = mark Marks.reset (e .receipt) (s .receipts); blocked = e .ssi ∷ s .blocked };
         stays = submitted (e .«retransmit_count») e ∷ [];
         out = e ∷ [];
       }
@@ -142,7 +135,7 @@ module _ (store : List ℕ) where
       let test : Bool = among (e .ssi) (s .blocked) in
       let sending-in : Visit Step.Sending Message Record =
       record {
-        state = record { receipts = Rule.mark Pending (e .receipt) (map placeIn (s .receipts)); blocked = e .ssi ∷ s .blocked };
+        state = record { receipts = Rule.mark Marks.reset (e .receipt) (map placeIn (s .receipts)); blocked = e .ssi ∷ s .blocked };
         stays = messageIn store (submitted (e .«retransmit_count») e) ∷ [];
         out = handed e ∷ [];
       }
@@ -150,7 +143,7 @@ module _ (store : List ℕ) where
       let sent : sending-in ≡ viewed₂ sending =
       λ i.
       record {
-        state = record { receipts = sym (mark-in Pending (e .receipt) (s .receipts)) i; blocked = e .ssi ∷ s .blocked };
+        state = record { receipts = sym (mark-in Marks.reset (e .receipt) (s .receipts)) i; blocked = e .ssi ∷ s .blocked };
         stays = messageIn store (submitted (e .«retransmit_count») e) ∷ [];
         out = handed e ∷ [];
       }

@@ -9,7 +9,9 @@ use Rattle.bits.specs.Bits.{splice}
 use Rattle.questions.specs.Outcome.{Outcome, accepted, refused, ask}
 use Rattle.tdma_time.specs.Slots.{first}
 use Rattle.tx_receipt.specs.States.{is, final}
-use Rattle.tx_receipt.specs.declared.TxState.the-variants.{Pending, Discarded, Transmitted, Acknowledged}
+use Rattle.tx_receipt.specs.Marks as Marks
+use Rattle.tx_receipt.specs.Marks.{allowed}
+use Rattle.tx_receipt.specs.declared.TxState.the-variants.{Pending}
 use Rattle.llc_pdus.specs.Headers.{header}
 use Rattle.llc_pdus.specs.declared.Pdu.{Pdu}
 use Rattle.llc_pdus.specs.declared.Pdu.the-variants.{BlAdata, BlData, BlUdata, BlAck}
@@ -157,7 +159,7 @@ fits nr e = e .«has_umac_done» && Bool·beq (e .ns) nr
 abbrev pub finishable : Bool → Found Entry → State → Bool
 finishable nr nothing s = true
 finishable nr (Lists.first e es) s =
-    not (fits nr e) || (placeOf (s .receipts) (e .receipt) .taken && is Transmitted (receiptOf (placeOf (s .receipts) (e .receipt))))
+    not (fits nr e) || (placeOf (s .receipts) (e .receipt) .taken && allowed Marks.acknowledged (receiptOf (placeOf (s .receipts) (e .receipt))))
 
 abbrev pub mayFinish : Frame → Option Bool → State → Bool
 mayFinish f none s = true
@@ -168,7 +170,7 @@ unfoldable pub answeredBy : Bool → Found Entry → List ScheduledOutAck → St
 answeredBy nr nothing ds s = relaid s (messagesOf s) (udataOf s) ds (s .receipts) (rowsOf s)
 answeredBy nr (Lists.first e es) ds s =
     cond (fits nr e)
-    (relaid s es (udataOf s) ds (mark Acknowledged (e .receipt) (s .receipts)) (rowsOf s))
+    (relaid s es (udataOf s) ds (mark Marks.acknowledged (e .receipt) (s .receipts)) (rowsOf s))
     (relaid s (e ∷ es) (udataOf s) ds (s .receipts) (rowsOf s))
 
 abbrev pub answered : Frame → Option Bool → List ScheduledOutAck → State → State
@@ -201,7 +203,7 @@ unfoldable pub onReport : ℕ → ℕ → State → List ℕ → Outcome Kept
 onReport i how s b =
     ask 15 (placeOf (s .receipts) i .taken && is Pending (receiptOf (placeOf (s .receipts) i)) && not (waits i s))
     (accepted
-    (kept (withReceipts s (cond (eqb how 1) (mark Transmitted i (s .receipts)) (mark Discarded i (s .receipts)))) b []))
+    (kept (withReceipts s (cond (eqb how 1) (mark Marks.transmitted i (s .receipts)) (mark Marks.discarded i (s .receipts)))) b []))
 
 unfoldable pub onRelease : ℕ → State → List ℕ → Outcome Kept
 onRelease i s b =

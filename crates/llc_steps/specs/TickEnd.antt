@@ -4,8 +4,7 @@ use mathlib.Core.Bool.{true, false, cond, not, _&&_}
 use mathlib.Core.List.{List, [], _∷_, _++_, map}
 use lib.Dec.{ltb}
 use Rattle.tdma_time.specs.declared.TdmaTime.{TdmaTime}
-use Rattle.tx_receipt.specs.States.{is}
-use Rattle.tx_receipt.specs.declared.TxState.the-variants.{Pending, Transmitted, Lost}
+use Rattle.tx_receipt.specs.Marks as Marks
 use Rattle.llc_rule.specs.Lists.{among, Visit, walk}
 use Rattle.llc_rule.specs.Records.{Record, acknowledged, unacknowledged}
 use Rattle.llc_rule.specs.Messages.{overdue, reported, replyTo}
@@ -79,16 +78,11 @@ stay s e = record { state = s; stays = e ∷ []; out = [] }
 
 abbrev pub resend : List ReceiptPlace → Entry → Visit (List ReceiptPlace) Entry Entry
 resend ps e =
-    record { state = mark Pending (e .receipt) ps; stays = submitted (e .«retransmit_count» + 1) e ∷ []; out = e ∷ [] }
+    record { state = mark Marks.reset (e .receipt) ps; stays = submitted (e .«retransmit_count» + 1) e ∷ []; out = e ∷ [] }
 
 abbrev pub leave : List ReceiptPlace → Entry → Visit (List ReceiptPlace) Entry Entry
 leave ps e =
-    record {
-      state =
-          cond (placeOf ps (e .receipt) .taken && is Transmitted (receiptOf (placeOf ps (e .receipt)))) (mark Lost (e .receipt) ps) ps;
-      stays = [];
-      out = [];
-    }
+    record { state = mark Marks.lost (e .receipt) ps; stays = []; out = [] }
 
 abbrev pub aged : TdmaTime → ℕ → List ReceiptPlace → Entry → Visit (List ReceiptPlace) Entry Entry
 aged time t251 ps e =
@@ -111,7 +105,7 @@ firstSending s e =
     (cond (among (e .ssi) (s .blocked))
     (stay s e)
     (record {
-      state = record { receipts = mark Pending (e .receipt) (s .receipts); blocked = e .ssi ∷ s .blocked };
+      state = record { receipts = mark Marks.reset (e .receipt) (s .receipts); blocked = e .ssi ∷ s .blocked };
       stays = submitted (e .«retransmit_count») e ∷ [];
       out = e ∷ [];
     }))

@@ -6,7 +6,7 @@ use mathlib.Core.Bool.{Bool, true, false, cond}
 use mathlib.Core.List.{List, [], _∷_, _++_, append-nil}
 use lib.ListN.{length, getD, set, drop, replicate, length-append}
 use lib.Seq.{getD-take, length-take-le}
-use Rattle.tx_receipt.specs.declared.TxState.the-variants.{Pending}
+use Rattle.tx_receipt.specs.Marks.{reset}
 use Rattle.llc_rule.specs.Lists.{all, among, Visit, _then_, walk}
 use Rattle.llc_rule.specs.Records.{allBytes, sentBytes}
 use Rattle.llc_rule.proofs.Lists.{if-true, if-false}
@@ -41,7 +41,7 @@ blocks s e = stay (record { receipts = s .receipts; blocked = e .ssi ∷ s .bloc
 abbrev sends : Sending → Entry → Visit Sending Entry Entry
 sends s e =
     record {
-      state = record { receipts = mark Pending (e .receipt) (s .receipts); blocked = e .ssi ∷ s .blocked };
+      state = record { receipts = mark reset (e .receipt) (s .receipts); blocked = e .ssi ∷ s .blocked };
       stays = submitted (e .«retransmit_count») e ∷ [];
       out = e ∷ [];
     }
@@ -219,7 +219,7 @@ module _ {s : State} {store l : List ℕ} {at₀ : ℕ} {out : List ℕ} {next :
       pub is-sent :
           {m : List ℕ} {j : ℕ} {place : ReceiptPlace}
           → Wrote out at (sentBytes 1 (sentIn store e)) m j
-          → place ≡ markedPlace Pending (placeOf (next .receipts) (e .receipt))
+          → place ≡ markedPlace reset (placeOf (next .receipts) (e .receipt))
           → Passing s store l at₀ m
           (withArrays next
           (set (next .«outbound_messages») i (submitted (e .«retransmit_count») e))
@@ -228,8 +228,8 @@ module _ {s : State} {store l : List ℕ} {at₀ : ℕ} {out : List ℕ} {next :
       is-sent {place} wr marked =
           let x : Entry = submitted (e .«retransmit_count») e in
           let ps : List ReceiptPlace = h .visits .state .receipts in
-          let placed : place ≡ markedPlace Pending (placeOf ps (e .receipt)) =
-          marked ∙ ap (λ (t : State). markedPlace Pending (placeOf (t .receipts) (e .receipt))) (h .holds)
+          let placed : place ≡ markedPlace reset (placeOf ps (e .receipt)) =
+          marked ∙ ap (λ (t : State). markedPlace reset (placeOf (t .receipts) (e .receipt))) (h .holds)
           in
           goes-on (sends (h .visits .state) e) is-free refl
           (ap

@@ -4,7 +4,6 @@ pub mod Compacting
 pub mod Draining
 pub mod Entries
 pub mod FreeMessages
-pub mod GivenUp
 pub mod Handing
 pub mod InPlace
 pub mod Overdue

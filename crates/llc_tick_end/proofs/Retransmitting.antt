@@ -2,25 +2,23 @@
 use Prim.Native.Nat.{ℕ, _+_, _≤_, _<_}
 use native.Mathlib.Omega.{arith}
 use mathlib.Core.Path.{_≡_, _∙_, refl, sym, subst, ap, ap₂}
-use mathlib.Core.Bool.{Bool, true, false, cond, _&&_}
+use mathlib.Core.Bool.{true, false, cond}
 use mathlib.Core.List.{List, [], _∷_, _++_, append-nil}
 use borrow.Author.Tests.{lt-ltb, le-ltb}
 use lib.Dec.{ltb}
 use lib.ListN.{length, getD, set, length-set}
-use lib.Seq.{length-take-le, getD-take, set-getD}
+use lib.Seq.{length-take-le, getD-take}
 use Rattle.bits.specs.Bits.{bits}
 use Rattle.tdma_time.specs.Slots.{valid}
 use Rattle.tdma_time.specs.declared.TdmaTime.{TdmaTime}
-use Rattle.tx_receipt.specs.States.{is}
-use Rattle.tx_receipt.specs.declared.TxState.the-variants.{Pending, Transmitted, Lost}
+use Rattle.tx_receipt.specs.Marks.{lost, reset}
 use Rattle.llc_rule.specs.Lists.{Visit, _then_}
 use Rattle.llc_rule.specs.Records.{sentBytes}
-use Rattle.llc_rule.proofs.Lists.{either, ap-cond, if-true, if-false}
+use Rattle.llc_rule.proofs.Lists.{either, if-true, if-false}
 use Rattle.llc_records.specs.Wrote.{Wrote}
 use Rattle.llc_records.proofs.Wrote.{_⨾_, same-bytes, wrote-none, as-long}
 use Rattle.llc_state.specs.Ranges.{entryInRange, inRange}
-use Rattle.llc_state.specs.Receipts.{receiptOf, withPlaces, markedPlace, placeOf, mark}
-use Rattle.llc_state.specs.States.{noReceipt}
+use Rattle.llc_state.specs.Receipts.{withPlaces, markedPlace, placeOf, mark}
 use Rattle.llc_state.specs.View.{sentIn}
 use Rattle.llc_state.specs.declared.Entry.{Entry}
 use Rattle.llc_state.specs.declared.ReceiptPlace.{ReceiptPlace}
@@ -30,7 +28,7 @@ use Rattle.llc_state.proofs.Lengths.{Lengths}
 use Rattle.llc_steps.specs.States.{messagesOf, withMessages}
 use Rattle.llc_steps.specs.TickEnd.{submitted, doneAt, stay, resend, leave, aged, retransmission, retransmissions}
 use Rattle.llc_tick_end.specs.Passes.{sentBytesOf, afterRetransmissions}
-use Rattle.llc_tick_end.specs.Retransmissions.{newlyDone, timedBy, isDue, givenUp}
+use Rattle.llc_tick_end.specs.Retransmissions.{newlyDone, timedBy, isDue}
 use Rattle.llc_tick_end.proofs.Clearing.{withArrays, withCount, Clearing, clears, cleared}
 use Rattle.llc_tick_end.proofs.Compacting.{Compacting, compacts, as-was, goes, keeps}
 use Rattle.llc_tick_end.proofs.Entries.{all-at, EntryTells, entry-tells}
@@ -61,15 +59,6 @@ module _ (time : TdmaTime) (t251 : ℕ) (ps : List ReceiptPlace) (e : Entry) whe
 
   no-more : isDue time t251 e ≡ true → 3 ≤ e .«retransmit_count» → aged time t251 ps e ≡ leave ps e
   no-more h many = due h ∙ if-false (resend ps e) (leave ps e) (le-ltb (e .«retransmit_count») 3 many)
-
--- The receipts after a message left.
-given-up-in :
-    (ps : List ReceiptPlace) (e : Entry) → set ps (e .receipt) (givenUp (placeOf ps (e .receipt))) ≡ leave ps e .state
-given-up-in ps e =
-    let p : ReceiptPlace = placeOf ps (e .receipt) in
-    let b : Bool = p .taken && is Transmitted (receiptOf p) in
-    ap-cond (set ps (e .receipt)) b (markedPlace Lost p) p
-    ∙ ap (cond b (mark Lost (e .receipt) ps)) (set-getD ps (e .receipt) noReceipt)
 
 -- After visits to the first i messages of s, of which j stay: next is the state, and at the place behind what was written.
 pub record Passing (s : State) (store out₀ : List ℕ) (next : State) (i j : ℕ) (out : List ℕ) (at : ℕ) : Type 0 where
@@ -187,7 +176,7 @@ module _ {s : State} {store out₀ : List ℕ} {next : State} {i j : ℕ} {out :
             {f : Entry} {p : ReceiptPlace} {out₁ : List ℕ} {at₁ : ℕ}
             → e .«retransmit_count» < 3
             → Wrote out at (sentBytes 1 (sentIn (bits store) e)) out₁ at₁
-            → p ≡ markedPlace Pending (placeOf (next .receipts) (held next i d .receipt))
+            → p ≡ markedPlace reset (placeOf (next .receipts) (held next i d .receipt))
             → f ≡ submitted (e .«retransmit_count» + 1) e
             → Passing s store out₀
             (withArrays next (set (next .«outbound_messages») j f) (set (next .receipts) (held next i d .receipt) p))
@@ -210,7 +199,7 @@ module _ {s : State} {store out₀ : List ℕ} {next : State} {i j : ℕ} {out :
               same =
                   ap (λ (t : State). withArrays t ms ps) (h .same)
                   ∙ ap (withArrays s ms)
-                  (ap (set (next .receipts) r) is-marked ∙ ap (λ (k : ℕ). mark Pending k (next .receipts)) (sym same-receipt));
+                  (ap (set (next .receipts) r) is-marked ∙ ap (λ (k : ℕ). mark reset k (next .receipts)) (sym same-receipt));
               wrote = same-bytes (sym (sent-more (bits store) (h .visit .out) e)) (h .wrote ⨾ w);
               range = h .range;
               count = h .count;
@@ -222,14 +211,14 @@ module _ {s : State} {store out₀ : List ℕ} {next : State} {i j : ℕ} {out :
         pub leaves :
             {p : ReceiptPlace}
             → 3 ≤ e .«retransmit_count»
-            → p ≡ givenUp (placeOf (next .receipts) (held next i d .receipt))
+            → p ≡ markedPlace lost (placeOf (next .receipts) (held next i d .receipt))
             → Passing s store out₀
             (withArrays next (next .«outbound_messages») (set (next .receipts) (held next i d .receipt) p))
             (i + 1)
             j
             out
             at
-        leaves {p} many is-given =
+        leaves {p} many is-marked =
             let r : ℕ = held next i d .receipt in
             let ps : List ReceiptPlace = set (next .receipts) r p in
             record {
@@ -239,9 +228,7 @@ module _ {s : State} {store out₀ : List ℕ} {next : State} {i j : ℕ} {out :
               same =
                   ap (λ (t : State). withArrays t (next .«outbound_messages») ps) (h .same)
                   ∙ ap (withArrays s (next .«outbound_messages»))
-                  (ap (set (next .receipts) r) is-given
-                  ∙ ap (λ (k : ℕ). set (next .receipts) k (givenUp (placeOf (next .receipts) k))) (sym same-receipt)
-                  ∙ given-up-in (next .receipts) e);
+                  (ap (set (next .receipts) r) is-marked ∙ ap (λ (k : ℕ). mark lost k (next .receipts)) (sym same-receipt));
               wrote = same-bytes (ap (sentBytesOf (bits store)) (sym (append-nil (h .visit .out)))) (h .wrote);
               range = h .range;
               count = h .count;

@@ -2,10 +2,8 @@
 use Prim.Native.Nat.{ℕ}
 use mathlib.Core.Bool.{Bool, cond, not, _&&_}
 use Rattle.tdma_time.specs.declared.TdmaTime.{TdmaTime}
-use Rattle.tx_receipt.specs.States.{is}
-use Rattle.tx_receipt.specs.declared.TxState.the-variants.{Transmitted, Lost}
 use Rattle.llc_rule.specs.Messages.{overdue, reported}
-use Rattle.llc_state.specs.Receipts.{receiptOf, markedPlace}
+use Rattle.llc_state.specs.Receipts.{receiptOf}
 use Rattle.llc_state.specs.declared.Entry.{Entry}
 use Rattle.llc_state.specs.declared.ReceiptPlace.{ReceiptPlace}
 use Rattle.llc_steps.specs.TickEnd.{doneAt}
@@ -20,7 +18,3 @@ timedBy time p e = cond (newlyDone p e) (doneAt time e) e
 -- Has its time run out?
 abbrev pub isDue : TdmaTime → ℕ → Entry → Bool
 isDue time t251 e = e .«has_umac_done» && overdue time t251 (e .«t_umac_done»)
-
--- The place of its receipt when it leaves.
-abbrev pub givenUp : ReceiptPlace → ReceiptPlace
-givenUp p = cond (p .taken && is Transmitted (receiptOf p)) (markedPlace Lost p) p

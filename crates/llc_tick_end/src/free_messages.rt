@@ -12,7 +12,6 @@ ghost use Rattle.llc_tick_end.specs.Passes.{sentBytesOf, sendings, after
 use crate::Passed;
 use crate::messages::put_message;
 use llc_state::State;
-use tx_receipt::TxState;
 
 // Goes through the messages: one that waits is handed down unless its SSI has one under way.
 pub(crate) fn submit_free_messages_to_umac(
@@ -49,7 +48,7 @@ pub(crate) fn submit_free_messages_to_umac(
         at = put_message(out, at, 1, ack, store);
         let receipt = ack.receipt as usize;
         let place = state.receipts[receipt];
-        state.receipts[receipt] = place.marked(TxState::Pending);
+        state.receipts[receipt] = place.reset();
         ack.submitted_to_umac = true;
         ack.has_umac_done = false;
         state.outbound_messages[m] = ack;

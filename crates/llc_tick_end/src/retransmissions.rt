@@ -11,7 +11,7 @@ ghost use Rattle.llc_state.specs.Ranges.{inRange};
 ghost use Rattle.llc_state.specs.Receipts.{receiptOf};
 ghost use Rattle.llc_steps.specs.TickEnd.{retransmissions, submitted as submittedEntry};
 ghost use Rattle.llc_tick_end.specs.Passes.{sentBytesOf, afterRetransmissions};
-ghost use Rattle.llc_tick_end.specs.Retransmissions.{timedBy, isDue, givenUp};
+ghost use Rattle.llc_tick_end.specs.Retransmissions.{timedBy, isDue};
 use crate::Passed;
 use crate::messages::put_message;
 use llc_state::Entry;
@@ -19,7 +19,6 @@ use llc_state::ReceiptPlace;
 use llc_state::State;
 use tdma_time::Counted;
 use tdma_time::TdmaTime;
-use tx_receipt::TxState;
 
 /// How often a message is handed down again.
 const N252_BL_MAX_TLSDU_RETRANSMITS_ACKED: u8 = 3;
@@ -81,18 +80,6 @@ pub(crate) fn submitted(e: Entry, retransmit_count: u8) -> Entry
     next
 }
 
-// The receipt of a message that leaves: if it was transmitted it is lost now.
-fn given_up(place: ReceiptPlace) -> ReceiptPlace
-    ensures { λ r. ⌜ r ≡ givenUp place ⌝ }
-{
-    let receipt = place.receipt();
-    let state = receipt.state;
-    if let TxState::Transmitted = state {
-        return place.marked(TxState::Lost);
-    }
-    place
-}
-
 // Goes through the messages: one that is due is handed down or leaves, and those that stay keep their order.
 pub(crate) fn submit_retransmissions_to_umac(
     mut state: State,
@@ -123,11 +110,11 @@ pub(crate) fn submit_retransmissions_to_umac(
         } else if e.retransmit_count < N252_BL_MAX_TLSDU_RETRANSMITS_ACKED {
             let behind = put_message(out, at, 1, e, store);
             at = behind;
-            state.receipts[receipt] = place.marked(TxState::Pending);
+            state.receipts[receipt] = place.reset();
             state.outbound_messages[j] = submitted(e, e.retransmit_count + 1);
             j += 1;
         } else {
-            state.receipts[receipt] = given_up(place);
+            state.receipts[receipt] = place.lost();
         }
     }
     let mut k = j;

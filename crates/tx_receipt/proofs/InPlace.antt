@@ -84,10 +84,10 @@ ReceiptOf d r = r ≡ answer d .receipt
 abbrev NumberOf : Marked → ℕ → Type 0
 NumberOf d n = n ≡ answer d .number
 
-abbrev answered : ℕ → TxReceipt → Answer
+abbrev pub answered : ℕ → TxReceipt → Answer
 answered n r = record { number = n; receipt = r }
 
-abbrev ended : Ended
+abbrev pub ended : Ended
 ended = record {
   signature = record {
     lifetimes = 1;
@@ -102,7 +102,7 @@ abbrev stayed : Stays (ended .signature .params) (ended .kept)
 stayed = (stay-ref (0 ∷ []) tt (plain (λ _. R.the-row)), tt)
 
 module _ {M : Type 1} (𝓤 : URA M) (H : Heap 𝓤) (A : Atoms 𝓤) (m : Mark) where
-  abbrev clauses : Clauses 𝓤 ended
+  abbrev pub clauses : Clauses 𝓤 ended
   clauses κs a = record {
     ghost = Unit {0};
     requires = λ _. emp 𝓤;

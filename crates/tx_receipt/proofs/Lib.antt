@@ -1,3 +1,3 @@
 mod ByValue
-mod InPlace
+pub mod InPlace
 pub mod Laws

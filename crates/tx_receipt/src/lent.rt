@@ -53,8 +53,8 @@ impl Marked {
         }
     }
 
-    // The receipt that is handed back.
-    fn receipt(self) -> TxReceipt
+    /// The receipt that is handed back.
+    pub fn receipt(self) -> TxReceipt
         ensures { λ r. ⌜ r ≡ answer self .receipt ⌝ }
     {
         match self {

@@ -1,7 +1,6 @@
 use native.Mathlib.Omega.{arith}
-use mathlib.Core.Path.{_∙_, sym, ap}
+use mathlib.Core.Path.{_∙_, sym}
 use borrow.Author.Tests.{not-true, not-false}
-use Rattle.tx_receipt.specs.declared.TxReceipt.{TxReceipt}
 use Rattle.llc_state.proofs.InRange.{range-tells}
 use Rattle.llc_state.proofs.Lengths.{lengths}
 use Rattle.llc_frames.proofs.Found.{none-finishes, receipt-in, unfit-finishes, fit-finishes}
@@ -44,22 +43,16 @@ element-copy-out-place c =
     let s = d .args .t1 in
     receipt-in s (d .args .i) (d .args .nr) (counts s (d .pre) (lengths s (d .good .0)) .messages) _ (c .before .before .before .before .if1 .left) (range-tells s (d .pre) .messages)
 
-receipt-requires : tie.Need-receipt-requires
-receipt-requires c κs = search needs
-
-get-state-requires : tie.Need-get-state-requires
-get-state-requires c κs = search needs
-
-raw-requires : tie.Need-raw-requires
-raw-requires c κs = search needs
+is-awaiting-requires : tie.Need-is-awaiting-requires
+is-awaiting-requires c κs = search needs
 
 returns-3 : tie.Need-returns-3
 returns-3 c =
-    let d = c .before .before .before .before .before .before .before .before .before .before in
+    let d = c .before .before .before .before .before .before .before in
     let s = d .args .t1 in
-    let f = c .before .before .before .before .before .before .before .fits2 in
-    fit-finishes s (d .args .i) (d .args .nr) (counts s (d .pre) (lengths s (d .good .0)) .messages) _ (c .before .before .before .before .before .before .before .before .before .if1 .left) (c .before .raw .result)
-    (sym (f .ensures) ∙ not-false (f .result) (c .before .before .before .before .before .before .if2 .left)) (c .before .before .get-state .ensures ∙ ap (λ (r : TxReceipt). r .state) (c .before .before .before .receipt .ensures)) (c .before .raw .ensures)
+    let f = c .before .before .before .before .fits2 in
+    fit-finishes s (d .args .i) (d .args .nr) (counts s (d .pre) (lengths s (d .good .0)) .messages) _ (c .before .before .before .before .before .before .if1 .left)
+    (sym (f .ensures) ∙ not-false (f .result) (c .before .before .before .if2 .left)) (c .is-awaiting .ensures)
 
 pub may-finish-spec : {M : Type 1} → statement M
 may-finish-spec =
@@ -73,7 +66,5 @@ may-finish-spec =
     cast-receipt
     mul-place
     element-copy-out-place
-    receipt-requires
-    get-state-requires
-    raw-requires
+    is-awaiting-requires
     returns-3)

@@ -27,8 +27,8 @@ cast-receipt c = search needs
 take-expected-ack-requires : tie.Need-take-expected-ack-requires
 take-expected-ack-requires c κs = search needs
 
-mark-receipt-requires : tie.Need-mark-receipt-requires
-mark-receipt-requires c κs =
+acknowledge-receipt-requires : tie.Need-acknowledge-receipt-requires
+acknowledge-receipt-requires c κs =
     let d = c .before .before .before .before .before .before in
     let s = d .args .t1 in
     receipt-in s (d .args .i) (d .args .nr) (omega (arith, d .pre .0, lengths s (d .good .0) .messages)) _ (c .before .before .before .before .before .if1 .left) (d .pre .1)
@@ -40,7 +40,7 @@ returns-2 c =
     fit-answered s (d .args .i) (d .args .nr) (omega (arith, d .pre .0, lengths s (d .good .0) .messages)) _ (c .before .before .before .before .before .before .if1 .left)
     (sym (c .before .before .before .before .fits2 .ensures) ∙ c .before .before .before .if2 .taken)
     (c .before .take-expected-ack .ensures)
-    (c .mark-receipt .ensures)
+    (c .acknowledge-receipt .ensures)
 
 push-front-expected-ack-requires : tie.Need-push-front-expected-ack-requires
 push-front-expected-ack-requires c κs = search needs
@@ -63,7 +63,7 @@ process-incoming-ack-spec =
     fits-requires
     cast-receipt
     take-expected-ack-requires
-    mark-receipt-requires
+    acknowledge-receipt-requires
     returns-2
     push-front-expected-ack-requires
     returns-3)

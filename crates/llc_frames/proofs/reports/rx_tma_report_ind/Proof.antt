@@ -66,11 +66,11 @@ returns-2 c =
     let d = c .before .before .before .before .before .before .before .before .before in
     still-waits (d .args .t1) (d .args .receipt) (d .args .how) (sym (c .before .before .waits .ensures) ∙ c .before .if2 .taken) (c .refused2 .ensures)
 
-marked-requires : tie.Need-marked-requires
-marked-requires c κs = search needs
+transmitted-requires : tie.Need-transmitted-requires
+transmitted-requires c κs = search needs
 
-mul-t23 : tie.Need-mul-t23
-mul-t23 c = search needs
+mul-t22 : tie.Need-mul-t22
+mul-t22 c = search needs
 
 element-set-from-state : tie.Need-element-set-from-state
 element-set-from-state c = search needs
@@ -86,10 +86,10 @@ returns-3 c =
     (sym (pending (c .before .before .before .before .before .before .before)) ∙ not-false (tested (c .before .before .before .before .before .before .before)) (c .before .before .before .before .before .if1 .left))
     (sym (c .before .before .before .before .waits .ensures) ∙ c .before .before .before .if2 .left)
     (c .before .before .if3 .taken)
-    (c .accepted .ensures ∙ ap (λ (p : ReceiptPlace). answer 0 (withPlaces s (set (s .receipts) (d .args .receipt) p)) 0) (c .before .marked .ensures))
+    (c .accepted .ensures ∙ ap (λ (p : ReceiptPlace). answer 0 (withPlaces s (set (s .receipts) (d .args .receipt) p)) 0) (c .before .transmitted .ensures))
 
-marked-requires-2 : tie.Need-marked-requires-2
-marked-requires-2 c κs = search needs
+discarded-requires : tie.Need-discarded-requires
+discarded-requires c κs = search needs
 
 mul-t8 : tie.Need-mul-t8
 mul-t8 c = search needs
@@ -108,7 +108,7 @@ returns-4 c =
     (sym (pending (c .before .before .before .before .before .before .before)) ∙ not-false (tested (c .before .before .before .before .before .before .before)) (c .before .before .before .before .before .if1 .left))
     (sym (c .before .before .before .before .waits .ensures) ∙ c .before .before .before .if2 .left)
     (c .before .before .if3 .left)
-    (c .accepted2 .ensures ∙ ap (λ (p : ReceiptPlace). answer 0 (withPlaces s (set (s .receipts) (d .args .receipt) p)) 0) (c .before .marked2 .ensures))
+    (c .accepted2 .ensures ∙ ap (λ (p : ReceiptPlace). answer 0 (withPlaces s (set (s .receipts) (d .args .receipt) p)) 0) (c .before .discarded .ensures))
 
 pub rx-tma-report-ind-spec : {M : Type 1} → statement M
 rx-tma-report-ind-spec =
@@ -124,12 +124,12 @@ rx-tma-report-ind-spec =
     waits-requires
     refused-requires-2
     returns-2
-    marked-requires
-    mul-t23
+    transmitted-requires
+    mul-t22
     element-set-from-state
     accepted-requires
     returns-3
-    marked-requires-2
+    discarded-requires
     mul-t8
     element-set-from-state-2
     accepted-requires-2

@@ -91,8 +91,8 @@ element-copy-out-place c =
     let b = c .before .before .before .before .before .before .before .before .before .before in
     in-range (b .before .loop .inv) _ (b .loop-test .taken) (b .before .before .before .before .pre .1 .0) .receipt
 
-marked-requires : tie.Need-marked-requires Inv-loop μ-loop
-marked-requires c κs = search needs
+reset-requires : tie.Need-reset-requires Inv-loop μ-loop
+reset-requires c κs = search needs
 
 mul-t15 : tie.Need-mul-t15 Inv-loop μ-loop
 mul-t15 c = search needs
@@ -125,7 +125,7 @@ loop-again-3 c =
     let b = c .before .before .before .before .before .before .before .before in
     let d = b .before .before .before in
     is-sent (d .before .before .loop .inv) _ (d .before .loop-test .taken) (d .if1 .left) (b .before .is-blocked .ensures) (b .if2 .left)
-    (c .before .before .before .before .before .put-message .ensures) (c .marked .ensures)
+    (c .before .before .before .before .before .put-message .ensures) (c .reset .ensures)
 
 same-length : tie.Need-same-length Inv-loop μ-loop
 same-length c = as-long (c .before .loop .inv .wrote)
@@ -160,7 +160,7 @@ submit-free-messages-to-umac-spec =
     cast-receipt
     mul-place
     element-copy-out-place
-    marked-requires
+    reset-requires
     mul-t15
     element-set-from-state
     mul-ack-2

@@ -88,11 +88,11 @@ put-message-requires c κs =
     let pre = l .before .before .before .before .before .pre in
     (pre .1 .0, (tells .block, (tells .place, (tells .len, room inv (l .loop-test .taken) _ timed due (c .before .if2 .taken) (pre .1 .1)))))
 
-marked-requires : tie.Need-marked-requires Inv-loop μ-loop Inv-loop2 μ-loop2
-marked-requires c κs = search needs
+reset-requires : tie.Need-reset-requires Inv-loop μ-loop Inv-loop2 μ-loop2
+reset-requires c κs = search needs
 
-mul-t34 : tie.Need-mul-t34 Inv-loop μ-loop Inv-loop2 μ-loop2
-mul-t34 c = omega (arith, c .before .before .before .before .before .before .before .before .before .before .before .struct-known .given)
+mul-t33 : tie.Need-mul-t33 Inv-loop μ-loop Inv-loop2 μ-loop2
+mul-t33 c = omega (arith, c .before .before .before .before .before .before .before .before .before .before .before .struct-known .given)
 
 element-set-from-state : tie.Need-element-set-from-state Inv-loop μ-loop Inv-loop2 μ-loop2
 element-set-from-state c =
@@ -105,8 +105,8 @@ add-submitted c = search needs
 submitted-requires : tie.Need-submitted-requires Inv-loop μ-loop Inv-loop2 μ-loop2
 submitted-requires c κs = search needs
 
-mul-t34-2 : tie.Need-mul-t34-2 Inv-loop μ-loop Inv-loop2 μ-loop2
-mul-t34-2 c =
+mul-t33-2 : tie.Need-mul-t33-2 Inv-loop μ-loop Inv-loop2 μ-loop2
+mul-t33-2 c =
     let l = c .before .before .before .before .before .before .before .before .before .before .before .before .before .before .before in
     let inv = l .before .loop .inv in
     omega (arith, inv .compacting .low, inv .count, l .loop-test .taken)
@@ -137,14 +137,14 @@ loop-again-2 c =
     sends-again (l .before .loop .inv) (l .loop-test .taken) _ (b .before .before .timed .ensures) due
     (m .before .before .if2 .taken)
     (m .put-message .ensures)
-    (c .before .before .marked .ensures)
+    (c .before .before .reset .ensures)
     (c .submitted .ensures)
 
-given-up-requires : tie.Need-given-up-requires Inv-loop μ-loop Inv-loop2 μ-loop2
-given-up-requires c κs = search needs
+lost-requires : tie.Need-lost-requires Inv-loop μ-loop Inv-loop2 μ-loop2
+lost-requires c κs = search needs
 
-mul-t42 : tie.Need-mul-t42 Inv-loop μ-loop Inv-loop2 μ-loop2
-mul-t42 c = omega (arith, c .before .before .before .before .before .before .before .struct-known .given)
+mul-t41 : tie.Need-mul-t41 Inv-loop μ-loop Inv-loop2 μ-loop2
+mul-t41 c = omega (arith, c .before .before .before .before .before .before .before .struct-known .given)
 
 element-set-from-state-3 : tie.Need-element-set-from-state-3 Inv-loop μ-loop Inv-loop2 μ-loop2
 element-set-from-state-3 c =
@@ -159,7 +159,7 @@ loop-again-3 c =
     let b = c .before .before .before in
     let l = b .before .before .before .before .before .before in
     let due = sym (b .before .is-due .ensures) ∙ not-false _ (b .if1 .left) in
-    leaves (l .before .loop .inv) (l .loop-test .taken) _ (b .before .before .timed .ensures) due (c .before .if2 .left) (c .given-up .ensures)
+    leaves (l .before .loop .inv) (l .loop-test .taken) _ (b .before .before .timed .ensures) due (c .before .if2 .left) (c .lost .ensures)
 
 loop2-holds : tie.Need-loop2-holds Inv-loop μ-loop Inv-loop2 μ-loop2
 loop2-holds c = clearing (c .before .loop .inv)
@@ -167,8 +167,8 @@ loop2-holds c = clearing (c .before .loop .inv)
 empty-requires : tie.Need-empty-requires Inv-loop μ-loop Inv-loop2 μ-loop2
 empty-requires c κs = search needs
 
-mul-t47 : tie.Need-mul-t47 Inv-loop μ-loop Inv-loop2 μ-loop2
-mul-t47 c = search needs
+mul-t46 : tie.Need-mul-t46 Inv-loop μ-loop Inv-loop2 μ-loop2
+mul-t46 c = search needs
 
 element-set-from-state-4 : tie.Need-element-set-from-state-4 Inv-loop μ-loop Inv-loop2 μ-loop2
 element-set-from-state-4 c = search needs
@@ -214,24 +214,24 @@ submit-retransmissions-to-umac-spec =
     loop-less
     loop-again
     put-message-requires
-    marked-requires
-    mul-t34
+    reset-requires
+    mul-t33
     element-set-from-state
     add-submitted
     submitted-requires
-    mul-t34-2
+    mul-t33-2
     element-set-from-state-2
     add-j-2
     loop-less-2
     loop-again-2
-    given-up-requires
-    mul-t42
+    lost-requires
+    mul-t41
     element-set-from-state-3
     loop-less-3
     loop-again-3
     loop2-holds
     empty-requires
-    mul-t47
+    mul-t46
     element-set-from-state-4
     add-k
     loop2-less
