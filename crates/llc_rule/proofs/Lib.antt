@@ -22,6 +22,7 @@ pub mod FitsRuns
 pub mod Room
 pub mod Swap
 pub mod UnderWay
+pub mod WhereTransmitted
 pub mod Runs
 pub mod Instance
 pub mod Applied

@@ -7,8 +7,10 @@ use borrow.Author.Tests.{eqb-true, eqb-false, ltb-true, ltb-false}
 use lib.Dec.{eqb, ltb}
 use lib.ListN.{length, set, length-set, List·getD-eq-default}
 use lib.Seq.{getD-set-other, set-out}
+use Rattle.tx_receipt.specs.Marks as Marks
 use Rattle.tx_receipt.specs.Marks.{Mark}
-use Rattle.llc_rule.specs.Messages.{Place, free, taken, placeAt, isFree, marked, mark}
+use Rattle.llc_rule.specs.Messages.{Place, free, taken, placeAt, isFree, taken?, marked, mark}
+use Rattle.llc_rule.specs.Sound.{expects}
 use Rattle.llc_rule.proofs.Lists.{by-test, getD-set}
 
 -- A place that was written, and another.
@@ -49,3 +51,17 @@ mark-free k zero (p ∷ ps) zero = free-marked k p
 mark-free k zero (p ∷ ps) (suc j) = refl
 mark-free k (suc i) (p ∷ ps) zero = refl
 mark-free k (suc i) (p ∷ ps) (suc j) = mark-free k i ps j
+
+-- A mark leaves what a receipt expects as it was.
+expects-marked : (k : Mark) (p : Place) → taken? expects (marked k p) ≡ taken? expects p
+expects-marked k free = refl
+expects-marked k (taken r) = by-test (Marks.allowed k r) (λ e. rw e) (λ e. rw e)
+
+pub mark-expects :
+    (k : Mark) (i : ℕ) (ps : List Place) (j : ℕ)
+    → taken? expects (placeAt (mark k i ps) j) ≡ taken? expects (placeAt ps j)
+mark-expects k i [] j = refl
+mark-expects k zero (p ∷ ps) zero = expects-marked k p
+mark-expects k zero (p ∷ ps) (suc j) = refl
+mark-expects k (suc i) (p ∷ ps) zero = refl
+mark-expects k (suc i) (p ∷ ps) (suc j) = mark-expects k i ps j

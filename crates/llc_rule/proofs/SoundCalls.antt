@@ -32,7 +32,7 @@ use Rattle.llc_rule.proofs.Lists.{by-test, both, neither, all-map}
 use Rattle.llc_rule.proofs.SoundRequests.{sound-data, sound-unitdata}
 use Rattle.llc_rule.proofs.SoundFrames.{sound-frame}
 use Rattle.llc_rule.proofs.Places.{mark-free}
-use Rattle.llc_rule.proofs.SoundLists.{all-but, owned-marked, owned-other, free-written, pending-other, waiting-other, sound-done}
+use Rattle.llc_rule.proofs.SoundLists.{all-but, owned-marked, owned-other, free-written, pending-other, waiting-other, waiting-marked, sound-done}
 
 -- Empty links -------------------------------------------------------------------------------------------------------------
 
@@ -106,7 +106,7 @@ sound-marked h l t i e s =
       free = λ j. mark-free t i (l .receipts) j ∙ s .free j;
       waiting =
           all-but _ _ _ (l .acknowledged)
-          (λ m w f. waiting-other (l .receipts) i _ m (λ q. rw (q, and-true) at f) w)
+          (λ m w f. waiting-marked (l .receipts) t i m (λ q. rw (q, and-true) at f) w)
           (n .0)
           (s .waiting);
       waitingToo =
@@ -145,7 +145,7 @@ sound-freed h l i b e s =
       free = λ j. free-written h (l .receipts) i none free (omega (arith, s .limits .receipts)) refl (s .free) j;
       waiting =
           all-but _ _ _ (l .acknowledged)
-          (λ m w f. waiting-other (l .receipts) i _ m (λ q. f) w)
+          (λ m w f. waiting-other (l .receipts) i _ m f w)
           (n .0)
           (s .waiting);
       waitingToo =

@@ -93,7 +93,7 @@ sound-finished h l t m ms e s =
       free = λ j. mark-free t (m .sent .receipt) (l .receipts) j ∙ s .free j;
       waiting =
           all-but _ _ _ ms
-          (λ o w f. waiting-other (l .receipts) (m .sent .receipt) _ o (λ q. f) w)
+          (λ o w f. waiting-other (l .receipts) (m .sent .receipt) _ o f w)
           (alone .0)
           ((rw e at (s .waiting)) .1);
       waitingToo =

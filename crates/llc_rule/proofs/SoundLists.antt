@@ -19,8 +19,8 @@ use Rattle.llc_rule.specs.Records.{Record, Sent}
 use Rattle.llc_rule.specs.Done.{Done, done}
 use Rattle.llc_rule.specs.Link.{Link}
 use Rattle.llc_rule.specs.Past.{Holders, holding}
-use Rattle.llc_rule.specs.Sound.{All, Owned, IsPending, Waiting, isNobody, oneAhead, Sound}
-use Rattle.llc_rule.proofs.Places.{place-other, mark-free}
+use Rattle.llc_rule.specs.Sound.{All, Owned, IsPending, expects, Expects, Waiting, isNobody, oneAhead, Sound}
+use Rattle.llc_rule.proofs.Places.{place-other, mark-free, mark-expects}
 use Rattle.llc_rule.proofs.Lists.{by-test, neither, clash, keep-yes, keep-no, keep-append, any-append, getD-set}
 
 module _ {A : Type 0} where
@@ -83,6 +83,9 @@ pending-taken t (taken r) h = refl
 pub other-pending : (ps : List Place) (i j : ℕ) → isFree (placeAt ps i) ≡ true → IsPending ps j → eqb j i ≡ false
 other-pending ps i j e w = other-place ps i j e (pending-taken (is Pending) (placeAt ps j) w)
 
+pub other-expecting : (ps : List Place) (i j : ℕ) → isFree (placeAt ps i) ≡ true → Expects ps j → eqb j i ≡ false
+other-expecting ps i j e w = other-place ps i j e (pending-taken expects (placeAt ps j) w)
+
 pub owned-marked : (h : Holders) (ps : List Place) (k : Mark) (i : ℕ) (t : Sent) → Owned h ps t → Owned h (mark k i ps) t
 owned-marked h ps k i t o = record { holder = o .holder; taken = mark-free k i ps (t .receipt) ∙ o .taken }
 
@@ -112,11 +115,28 @@ pending-other ps i j p h w = rw (place-other ps i j p h) w
 
 pub waiting-other :
     (ps : List Place) (i : ℕ) (p : Place) (m : Message)
-    → (m .submitted ≡ false → eqb (m .sent .receipt) i ≡ false)
+    → eqb (m .sent .receipt) i ≡ false
     → Waiting ps m
     → Waiting (set ps i p) m
 waiting-other ps i p m h w =
-    record { receipt = λ e. pending-other ps i (m .sent .receipt) p (h e) (w .receipt e); time = w .time }
+    record {
+      expects = rw (place-other ps i (m .sent .receipt) p h) (w .expects);
+      receipt = λ e. pending-other ps i (m .sent .receipt) p h (w .receipt e);
+      time = w .time;
+    }
+
+-- A receipt marked that no waiting message has.
+pub waiting-marked :
+    (ps : List Place) (k : Mark) (i : ℕ) (m : Message)
+    → (m .submitted ≡ false → eqb (m .sent .receipt) i ≡ false)
+    → Waiting ps m
+    → Waiting (mark k i ps) m
+waiting-marked ps k i m h w =
+    record {
+      expects = mark-expects k i ps (m .sent .receipt) ∙ w .expects;
+      receipt = λ e. pending-other ps i (m .sent .receipt) _ (h e) (w .receipt e);
+      time = w .time;
+    }
 
 -- What an accepted call leaves.
 pub sound-done :

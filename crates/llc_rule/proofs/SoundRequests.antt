@@ -22,9 +22,9 @@ use Rattle.llc_rule.specs.Done.{Done}
 use Rattle.llc_rule.specs.Link.{Link, Row, withQueues, bitOf, withBit}
 use Rattle.llc_rule.specs.Step.{dueFor, receiptFree, rowFor, acknowledgedPlace, unacknowledgedPlace, onAcknowledgedPath, dataPdu, withAcknowledged, withUnacknowledged, withStolen, onData, onUnitdata}
 use Rattle.llc_rule.specs.Past.{Holders, holding}
-use Rattle.llc_rule.specs.Sound.{All, Owned, IsPending, Waiting, acknowledgedWith, unacknowledgedWith, ofAddress, Sound}
+use Rattle.llc_rule.specs.Sound.{All, Owned, IsPending, Expects, Waiting, acknowledgedWith, unacknowledgedWith, ofAddress, Sound}
 use Rattle.llc_rule.proofs.Lists.{by-test, clash, keep-append, all-append, all-map, FoundBy, find-by}
-use Rattle.llc_rule.proofs.SoundLists.{count-append, none-passes, other-place, other-pending, owned-other, free-written, pending-other, waiting-other, ahead-append, sound-done}
+use Rattle.llc_rule.proofs.SoundLists.{count-append, none-passes, other-place, other-pending, other-expecting, owned-other, free-written, pending-other, waiting-other, ahead-append, sound-done}
 
 -- The new message ---------------------------------------------------------------------------------------------------------
 
@@ -40,6 +40,9 @@ owned-new h ps t expects b =
 
 pending-new : (ps : List Place) (i : ℕ) (expects : Bool) → i < length ps → IsPending (set ps i (pending expects)) i
 pending-new ps i expects b = rw (getD-set-same ps i (pending expects) free b)
+
+expects-new : (ps : List Place) (i : ℕ) → i < length ps → Expects (set ps i (pending true)) i
+expects-new ps i b = rw (getD-set-same ps i (pending true) free b)
 
 -- The messages that were held: their receipts are others, so they are owned and wait as before, and none counts with it.
 module _ (h : Holders) (l : Link) (i : ℕ) (s : Sound h l) (f : isFree (placeAt (l .receipts) i) ≡ true) where
@@ -69,7 +72,7 @@ module _ (h : Holders) (l : Link) (i : ℕ) (s : Sound h l) (f : isFree (placeAt
       all-map _ _ (l .acknowledged)
       (λ m w.
       waiting-other (l .receipts) i p m
-      (λ e. other-pending (l .receipts) i (m .sent .receipt) f (w .receipt e))
+      (other-expecting (l .receipts) i (m .sent .receipt) f (w .expects))
       w)
       (s .waiting)
 
@@ -147,7 +150,11 @@ sound-acknowledged h l t ns ds rs b f room roomDue roomRows s =
       waiting =
           all-append _ (l .acknowledged) (waiting t ns ∷ [])
           (held-waiting h l (t .receipt) s f _)
-          (record { receipt = λ e. pending-new (l .receipts) (t .receipt) true inside; time = λ e. refl }, tt);
+          (record {
+            expects = expects-new (l .receipts) (t .receipt) inside;
+            receipt = λ e. pending-new (l .receipts) (t .receipt) true inside;
+            time = λ e. refl;
+          }, tt);
       waitingToo = held-waiting-too h l (t .receipt) s f _;
       ahead =
           λ a.

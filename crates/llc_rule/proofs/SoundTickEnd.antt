@@ -20,8 +20,8 @@ use Rattle.llc_rule.specs.Messages.{Message, submittedAfter, doneAt, has
 use Rattle.llc_rule.specs.Link.{Link}
 use Rattle.llc_rule.specs.Step.{stay, resend, leave, agedBy, retransmission, Sending, firstSending, retransmissions, firstSendings, onTickEnd}
 use Rattle.llc_rule.specs.Past.{Holders}
-use Rattle.llc_rule.specs.Sound.{All, Owned, Waiting, acknowledgedWith, ofAddress, oneAhead, Sound}
-use Rattle.llc_rule.proofs.Places.{length-mark, mark-free}
+use Rattle.llc_rule.specs.Sound.{All, Owned, expects, Waiting, acknowledgedWith, ofAddress, oneAhead, Sound}
+use Rattle.llc_rule.proofs.Places.{length-mark, mark-free, mark-expects}
 use Rattle.llc_rule.proofs.Lists.{by-test, both, neither, clash, keep-yes, keep-no, all-map}
 
 -- Receipts ----------------------------------------------------------------------------------------------------------------
@@ -88,7 +88,12 @@ waiting-at :
     → placeAt ps′ (m .sent .receipt) ≡ placeAt ps (m .sent .receipt)
     → Waiting ps m
     → Waiting ps′ m
-waiting-at ps ps′ m e w = record { receipt = λ h. ap (taken? (is Pending)) e ∙ w .receipt h; time = w .time }
+waiting-at ps ps′ m e w =
+    record {
+      expects = ap (taken? expects) e ∙ w .expects;
+      receipt = λ h. ap (taken? (is Pending)) e ∙ w .receipt h;
+      time = w .time;
+    }
 
 still-waiting :
     (i : ℕ) (ps ps′ : List Place) (q : List Message)
@@ -216,7 +221,11 @@ visited-overdue true true ps n s w =
       touched = touched-mark Marks.reset (n .sent .receipt) ps;
       remains =
           one (submittedAfter (suc (n .resends)) n) refl (sym s)
-          (record { receipt = λ h. absurd (true≢false h); time = λ h. refl });
+          (record {
+            expects = mark-expects Marks.reset (n .sent .receipt) ps (n .sent .receipt) ∙ w .expects;
+            receipt = λ h. absurd (true≢false h);
+            time = λ h. refl;
+          });
     }
 visited-overdue true false ps n s w =
     record {
@@ -245,7 +254,7 @@ visited-timed :
     (agedBy time t251 ps (cond b (doneAt time m) m) (cond b (doneAt time m) m .done) .stays)
 visited-timed true time t251 ps m f w =
     visited-aged time t251 ps (doneAt time m) (some time) refl
-    (record { receipt = w .receipt; time = λ h. clash (f refl) h })
+    (record { expects = w .expects; receipt = w .receipt; time = λ h. clash (f refl) h })
 visited-timed false time t251 ps m f w = visited-aged time t251 ps m (m .done) refl w
 
 -- A waiting message's receipt is Pending, so that it gets no done time and stays as it is.
@@ -364,7 +373,11 @@ visited-by s m false false w =
       touched = touched-mark Marks.reset (m .sent .receipt) (s .receipts);
       remains =
           one (submittedAfter (m .resends) m) refl tt
-          (record { receipt = λ h. absurd (true≢false h); time = λ h. refl });
+          (record {
+            expects = mark-expects Marks.reset (m .sent .receipt) (s .receipts) (m .sent .receipt) ∙ w .expects;
+            receipt = λ h. absurd (true≢false h);
+            time = λ h. refl;
+          });
     }
 
 visited-first :

@@ -6,13 +6,17 @@ use mathlib.Core.Bool.{Bool, true, false, not}
 use mathlib.Core.List.{List, [], _∷_, _++_, map}
 use lib.Dec.{eqb}
 use lib.ListN.{length}
+use Rattle.tx_receipt.specs.States.{is}
+use Rattle.tx_receipt.specs.Marks as Marks
+use Rattle.tx_receipt.specs.Marks.{allowed}
+use Rattle.tx_receipt.specs.declared.TxState.the-variants.{Transmitted}
 use Rattle.llc_rule.specs.Lists.{keep, all, among}
-use Rattle.llc_rule.specs.Messages.{Message, Place}
+use Rattle.llc_rule.specs.Messages.{Message, Place, placeAt, taken?}
 use Rattle.llc_rule.specs.Link.{new}
 use Rattle.llc_rule.specs.Rule.{Own, atFirst, rule}
 use Rattle.llc_rule.specs.Runs.{Exchange, exchange, left, run, after}
 use Rattle.llc_rule.specs.Past.{nobody, Whose, belongsTo, whose, past, strays, holdersAfter, Sight, sight, heldBy, takenFrom}
-use Rattle.llc_rule.specs.Sound.{ofAddress}
+use Rattle.llc_rule.specs.Sound.{All, ofAddress}
 
 -- What the rule answers to a list of calls: an exchange for each, what is seen of it, and what the rule keeps after them.
 unfoldable pub ruleRun : Own → List (List ℕ) → List Exchange
@@ -92,3 +96,13 @@ pub record OneUnderWay : Type 0 where
       → (a : ℕ)
       → underWay (ruleAfter atFirst (calls (past a nobody (run new cs))) .acknowledged) ≤ 1
   pub onLink : (cs : List (List ℕ)) (a : ℕ) → underWay (ofAddress a (after new cs .acknowledged)) ≤ 1
+
+-- "14. If N(R) would finish a message, is its receipt Transmitted?" and "Transmitted becomes Lost": of an acknowledged message
+-- that is held the two marks are allowed exactly there, after every list of calls.
+pub record MarkedWhereTransmitted (ps : List Place) (m : Message) : Type 0 where
+  pub acknowledged :
+      taken? (allowed Marks.acknowledged) (placeAt ps (m .sent .receipt)) ≡ taken? (is Transmitted) (placeAt ps (m .sent .receipt))
+  pub lost : taken? (allowed Marks.lost) (placeAt ps (m .sent .receipt)) ≡ taken? (is Transmitted) (placeAt ps (m .sent .receipt))
+
+pub record WhereTransmitted : Type 0 where
+  pub each : (cs : List (List ℕ)) → All (MarkedWhereTransmitted (after new cs .receipts)) (after new cs .acknowledged)

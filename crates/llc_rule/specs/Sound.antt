@@ -8,6 +8,7 @@ use lib.Dec.{eqb}
 use lib.ListN.{length}
 use Rattle.tx_receipt.specs.States.{is}
 use Rattle.tx_receipt.specs.declared.TxState.the-variants.{Pending}
+use Rattle.tx_receipt.specs.declared.TxReceipt.{TxReceipt}
 use Rattle.llc_rule.specs.Lists.{keep, any}
 use Rattle.llc_rule.specs.Records.{Sent}
 use Rattle.llc_rule.specs.Messages.{Message, Place, placeAt, isFree, taken?}
@@ -28,8 +29,16 @@ pub record Owned (h : Holders) (ps : List Place) (s : Sent) : Type 0 where
 abbrev pub IsPending : List Place → ℕ → Type 0
 IsPending ps i = taken? (is Pending) (placeAt ps i) ≡ true
 
--- The receipt of a message that waits is Pending, and it has no done time.
+-- A receipt expects an acknowledgement.
+abbrev pub expects : TxReceipt → Bool
+expects r = r .«expects_ack»
+
+abbrev pub Expects : List Place → ℕ → Type 0
+Expects ps i = taken? expects (placeAt ps i) ≡ true
+
+-- The receipt of an acknowledged message expects an acknowledgement; that of one that waits is Pending, and it has no done time.
 pub record Waiting (ps : List Place) (m : Message) : Type 0 where
+  pub expects : Expects ps (m .sent .receipt)
   pub receipt : m .submitted ≡ false → IsPending ps (m .sent .receipt)
   pub time : m .submitted ≡ false → m .done ≡ none
 
@@ -69,7 +78,7 @@ pub record Sound (h : Holders) (l : Link) : Type 0 where
   pub apart : (i : ℕ) → acknowledgedWith i (l .acknowledged) + unacknowledgedWith i (l .unacknowledged) ≤ 1
   -- A receipt is free exactly if nobody holds it.
   pub free : (i : ℕ) → isFree (placeAt (l .receipts) i) ≡ isNobody (h i)
-  -- A waiting message's receipt is Pending.
+  -- An acknowledged message's receipt expects an acknowledgement; a waiting message's receipt is Pending.
   pub waiting : All (Waiting (l .receipts)) (l .acknowledged)
   pub waitingToo : All (λ (s : Sent). IsPending (l .receipts) (s .receipt)) (l .unacknowledged)
   -- Each address has at most one message under way, ahead of those that wait.

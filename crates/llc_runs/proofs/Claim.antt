@@ -19,13 +19,14 @@ use Rattle.llc_rule.specs.Runs as Rule
 use Rattle.llc_rule.specs.Runs.{Exchange}
 use Rattle.llc_rule.specs.Past.{Holders, nobody, belongsTo, whose, past, strays, holdersAfter, sight, heldBy, takenFrom}
 use Rattle.llc_rule.specs.Claim as OnLink
-use Rattle.llc_rule.specs.Claim.{ruleRun, ruleSights, ruleAfter, calls, unhindered, SeesItsOwnPast, SeesTheSame, underWay}
-use Rattle.llc_rule.specs.Sound.{ofAddress}
+use Rattle.llc_rule.specs.Claim.{ruleRun, ruleSights, ruleAfter, calls, unhindered, SeesItsOwnPast, SeesTheSame, underWay, MarkedWhereTransmitted}
+use Rattle.llc_rule.specs.Sound.{ofAddress, All}
 use Rattle.llc_rule.specs.Sendings.{requestOf, sendings, AtMostFour, EachAtMostFour}
 use Rattle.llc_rule.proofs.Lists.{by-test, if-true, if-false, clash}
 use Rattle.llc_rule.proofs.Demand3.{demand3}
 use Rattle.llc_rule.proofs.Swap.{swap}
 use Rattle.llc_rule.proofs.UnderWay.{one-under-way}
+use Rattle.llc_rule.proofs.WhereTransmitted.{where-transmitted}
 use Rattle.llc_rule.proofs.Sendings.{handed-down}
 use Rattle.llc_rule.proofs.SendingsByRule.{handed-down-by-rule}
 use Rattle.llc_state.specs.Ranges.{inRange}
@@ -260,6 +261,14 @@ one-in-state store cs a =
     subst (λ (l : Link). underWay (ofAddress a (l .acknowledged)) ≤ 1) (sym (as-step store cs .link))
     (one-under-way .onLink (putTo store cs) a)
 
+-- A receipt is marked where it is Transmitted.
+where-marked :
+    (store : List ℕ) (cs : List Lent)
+    → All (MarkedWhereTransmitted (linkAt (after (begin store) cs) .receipts)) (linkAt (after (begin store) cs) .acknowledged)
+where-marked store cs =
+    subst (λ (l : Link). All (MarkedWhereTransmitted (l .receipts)) (l .acknowledged)) (sym (as-step store cs .link))
+    (where-transmitted .each (putTo store cs))
+
 -- A request that is accepted was lent what is right.
 pub sendings-are :
     (i : ℕ) (s : Station) (c : Lent) (later : List Lent)
@@ -329,6 +338,7 @@ claim =
       swap = swapped;
       oneUnderWay = one-by-rule;
       oneInState = one-in-state;
+      whereTransmitted = where-marked;
       four = four;
       fourByRule = four-by-rule;
     }

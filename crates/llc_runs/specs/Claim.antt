@@ -15,8 +15,8 @@ use Rattle.llc_rule.specs.Runs as Rule
 use Rattle.llc_rule.specs.Runs.{Exchange}
 use Rattle.llc_rule.specs.Rule.{atFirst}
 use Rattle.llc_rule.specs.Past.{nobody, Whose, belongsTo, whose, past, holdersAfter}
-use Rattle.llc_rule.specs.Claim.{ruleRun, ruleAfter, calls, unhindered, SeesItsOwnPast, SeesTheSame, underWay}
-use Rattle.llc_rule.specs.Sound.{ofAddress}
+use Rattle.llc_rule.specs.Claim.{ruleRun, ruleAfter, calls, unhindered, SeesItsOwnPast, SeesTheSame, underWay, MarkedWhereTransmitted}
+use Rattle.llc_rule.specs.Sound.{ofAddress, All}
 use Rattle.llc_rule.specs.Sendings.{requestOf, sendings, AtMostFour, EachAtMostFour}
 use Rattle.record_lines.specs.Split.{inLines, recordLines}
 use Rattle.llc_state.specs.Ranges.{inRange}
@@ -109,6 +109,11 @@ pub record Claim : Type 0 where
       → underWay (ruleAfter atFirst (calls (past a nobody (run (begin store) cs))) .acknowledged) ≤ 1
   pub oneInState :
       (store : List ℕ) (cs : List Lent) (a : ℕ) → underWay (ofAddress a (linkAt (after (begin store) cs) .acknowledged)) ≤ 1
+  -- "14. If N(R) would finish a message, is its receipt Transmitted?" and "Transmitted becomes Lost": in a run the two marks are
+  -- allowed exactly there, since the receipt of an acknowledged message expects an acknowledgement.
+  pub whereTransmitted :
+      (store : List ℕ) (cs : List Lent)
+      → All (MarkedWhereTransmitted (linkAt (after (begin store) cs) .receipts)) (linkAt (after (begin store) cs) .acknowledged)
   -- Of every request that is accepted, after any calls and before any calls, at most four sendings, all the same.
   pub four :
       (store : List ℕ) (before : List Lent) (c : Lent) (r : Request) (later : List Lent)
