@@ -5,7 +5,7 @@ use mathlib.Core.Bool.{true, false}
 use mathlib.Core.List.{List, [], _∷_, map}
 use mathlib.Core.Option.{Option, none, some}
 use lib.ListN.{length}
-use Rattle.tx_receipt.specs.declared.TxState.the-variants.{Lost}
+use Rattle.tx_receipt.specs.Marks.{discarded}
 use Rattle.llc_rule.specs.Lists.{keep, any, all}
 use Rattle.llc_rule.specs.Calls.{toBytes}
 use Rattle.llc_rule.specs.Records.{Record, acknowledged, reply, unacknowledged, dataUp, unitdataUp, Sent, Indication}
@@ -186,7 +186,7 @@ seen-other = refl
 
 -- The receipts from a number on that an address holds, with what is in their places, and those that are taken.
 abbrev places : List Place
-places = pending true ∷ free ∷ marked Lost (pending true) ∷ pending false ∷ []
+places = pending true ∷ free ∷ marked discarded (pending true) ∷ pending false ∷ []
 
 held-receipts : heldBy first held 0x10 places ≡ record { receipt = 0x11; place = free } ∷ []
 unfolding heldBy holders holdersAfter toBytes exchanges
@@ -195,7 +195,7 @@ held-receipts = refl
 taken-receipts :
     takenFrom 0x10 places
     ≡ record { receipt = 0x10; place = pending true }
-    ∷ record { receipt = 0x12; place = marked Lost (pending true) }
+    ∷ record { receipt = 0x12; place = marked discarded (pending true) }
     ∷ record { receipt = 0x13; place = pending false }
     ∷ []
 unfolding takenFrom
