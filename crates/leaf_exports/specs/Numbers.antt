@@ -3,7 +3,7 @@ use Prim.Native.Nat.{ℕ, _+_, _^_}
 use Rattle.questions.specs.Outcome.{Outcome, accepted, refused}
 use Rattle.llc_pdus.specs.Answers.{Frame}
 use Rattle.llc_pdus.specs.Types.{raw}
-use Rattle.llc_pdus.specs.declared.llc_pdu_type.TypeOf.{TypeOf}
+use Rattle.llc_pdus.specs.declared.llc_pdu_type.LlcPduType.{LlcPduType}
 
 abbrev pub sumOr : Outcome ℕ → ℕ
 sumOr (accepted n) = n
@@ -14,7 +14,7 @@ abbrev pub firstOr : Outcome Frame → ℕ
 firstOr (accepted f) = f .sdu .first
 firstOr (refused k) = 2 ^ 32 + k
 
--- Of a type, its number; 2 ^ 32 where there is none.
-abbrev pub rawOr : TypeOf → ℕ
-rawOr (TypeOf.Type t) = raw t
-rawOr TypeOf.Unknown = 2 ^ 32
+-- Of a type, its number.
+abbrev pub rawOr : Outcome LlcPduType → ℕ
+rawOr (accepted t) = raw t
+rawOr (refused k) = 2 ^ 32 + k

@@ -89,7 +89,7 @@ pub extern "C" fn leaf_type(x: u64) -> u64
 {
     match LlcPduType::try_from(x) {
         TypeOf::Type(t) => t.into_raw(),
-        TypeOf::Unknown => 4_294_967_296,
+        TypeOf::Unknown => 4_294_967_301,
     }
 }
 

@@ -89,7 +89,9 @@ pub fn spoil(record: &mut Vec<u8>, call: &Call) {
     while at < record.len() {
         let (tag, len) = (record[at], u16::from_be_bytes([record[at + 1], record[at + 2]]) as usize);
         match fault {
-            Fault::ByteWritten(of, field, place) if of == kind && field == tag && len > 0 => record[at + 3 + place.min(len - 1)] = 0,
+            Fault::ByteWritten(of, field, place) if of == kind && field == tag && len > 0 => {
+                record[at + 3 + place.min(len - 1)] = 0
+            }
             Fault::BlockLost(of) if Some(of) == kind_up && tag == 0x0b => {
                 record.drain(at + 3..at + 3 + len);
                 record[at + 1..at + 3].fill(0);

@@ -103,7 +103,9 @@ fn fields() -> Vec<Call> {
     calls.push(Call::TickEnd);
     calls.extend([0x71, 0x72, 0x73, 0x74, 0x76, 0x77].map(|receipt| Call::Release { receipt }));
     // 1, 2, 512, 513 and 514 slots later.
-    for later in [time(0x0200, 1, 1, 1), time(0x0200, 1, 1, 2), time(0x0200, 8, 2, 4), time(0x0200, 8, 3, 1), time(0x0200, 8, 3, 2)] {
+    for later in
+        [time(0x0200, 1, 1, 1), time(0x0200, 1, 1, 2), time(0x0200, 8, 2, 4), time(0x0200, 8, 3, 1), time(0x0200, 8, 3, 2)]
+    {
         calls.extend([later, Call::TickEnd]);
     }
     calls

@@ -75,7 +75,9 @@ pub fn compare() -> bool {
                 // "A mark from a state that does not allow it", "An acknowledgement that is not expected": the Rust panics.
                 Some(reporter) => match caught(|| rust(&reporter)) {
                     Some(()) => ("0", made(raw(reporter.get_state()))),
-                    None => (if number == 14 { "14" } else { "15" }, ReceiptAnswer { state: raw(reporter.get_state()), ..refused }),
+                    None => {
+                        (if number == 14 { "14" } else { "15" }, ReceiptAnswer { state: raw(reporter.get_state()), ..refused })
+                    }
                 },
             };
             report.compare(name, answer, input, &here(expects_ack, state), &expected);

@@ -51,11 +51,11 @@ impl Report {
         let is_wanted = |key: &&(&'static str, &'static str)| pairs.contains(*key);
         missing.extend(self.counts.keys().filter(|key| !is_wanted(key)).map(|(f, a)| format!("{f} {a}: not in the list")));
         if self.differences > 0 {
-            println!("FAILED: {}: {} differences in {} calls", self.name, self.differences, self.compared);
+            println!("FAILED: {}: {} differences in {} comparisons", self.name, self.differences, self.compared);
         } else if !missing.is_empty() {
             println!("FAILED: {}: {}", self.name, missing.join("; "));
         } else {
-            println!("ok: {}: {} calls beside the Rust", self.name, self.compared);
+            println!("ok: {} beside the Rust: {} comparisons", self.name, self.compared);
         }
         self.differences == 0 && missing.is_empty()
     }

@@ -111,7 +111,11 @@ pub fn compare(prng: &mut Prng) -> bool {
         bounds.iter().step_by(7).for_each(|&b| two(a, b, &mut report));
         // Half of W apart, and next to it.
         for by in around(W / 2) {
-            two(Time::of(TdmaTime::from_int(by + (place as i32 % 3))), Time::of(TdmaTime::from_int(place as i32 % 3)), &mut report);
+            two(
+                Time::of(TdmaTime::from_int(by + (place as i32 % 3))),
+                Time::of(TdmaTime::from_int(place as i32 % 3)),
+                &mut report,
+            );
         }
     }
     for _ in 0..200_000 {

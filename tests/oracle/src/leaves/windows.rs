@@ -130,6 +130,10 @@ fn acts(count: usize, prng: &mut Prng) -> Vec<Act> {
     for n in far {
         acts.extend([Act::New(n), Act::Seek(n), Act::SetRawStart(n), Act::SetRawPos(n), Act::SetRawEnd(n)]);
         acts.extend([Act::SeekRel(n as isize), Act::SeekRel((n as isize).wrapping_neg())]);
+        for width in [0, 1, 8] {
+            acts.extend([Act::PeekBitsStartoffset(n, width), Act::PeekBitsPosoffset(n as isize, width)]);
+            acts.push(Act::PeekBitsPosoffset((n as isize).wrapping_neg(), width));
+        }
     }
     for n in 0..=66 {
         let value = if n < 64 { prng.next() & ((1 << n) - 1) } else { prng.next() };
@@ -173,7 +177,8 @@ fn copy(n: usize, prng: &mut Prng) -> Act {
 fn random(count: usize, prng: &mut Prng) -> Act {
     let far = [0, 1, usize::MAX, usize::MAX - 1, usize::MAX / 2, 1 << 63, 8 * count, 8 * count + 1];
     let place = if prng.once_in(20) { prng.one_of(&far) } else { prng.below(8 * count + 2) };
-    let step = if prng.once_in(20) { prng.one_of(&far) as isize } else { prng.below(16 * count + 3) as isize - 8 * count as isize };
+    let step =
+        if prng.once_in(20) { prng.one_of(&far) as isize } else { prng.below(16 * count + 3) as isize - 8 * count as isize };
     let width = if prng.once_in(20) { prng.one_of(&far) } else { prng.below(70) };
     let long = if prng.once_in(20) { prng.one_of(&far) } else { prng.below(8 * count + 70) };
     let value = if width < 64 && !prng.once_in(10) { prng.next() & ((1 << width) - 1) } else { prng.next() };
