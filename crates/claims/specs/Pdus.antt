@@ -4,14 +4,13 @@ use mathlib.Core.Path.{_≡_}
 use mathlib.Core.List.{List, _++_}
 use lib.ListN.{length, take}
 use Rattle.questions.specs.Outcome.{accepted}
-use Rattle.bits.specs.Bits.{AllBits, bits, part, splice}
+use Rattle.bits.specs.Bits.{AllBits, bits, part, splice, value}
 use Rattle.llc_pdus.specs.Headers.{Reading, header, reading}
-use Rattle.llc_pdus.specs.Types.{fromRaw, raw}
-use Rattle.llc_pdus.specs.Sdus.{holding}
+use Rattle.llc_pdus.specs.Types.{firstBits, fromRaw, raw, typeOf}
+use Rattle.llc_pdus.specs.Sdus.{headerEnd, holding}
 use Rattle.llc_pdus.specs.Writes.{frame}
 use Rattle.llc_pdus.specs.declared.Pdu.{Pdu}
 use Rattle.llc_pdus.specs.declared.llc_pdu_type.LlcPduType.{LlcPduType}
-use Rattle.llc_pdus.specs.declared.llc_pdu_type.TypeOf.{TypeOf}
 
 pub record Pdus : Type 0 where
   -- What begins with a PDU's header reads as that PDU, with the SDU behind it.
@@ -19,7 +18,13 @@ pub record Pdus : Type 0 where
   -- A list of bits that reads as a PDU begins with its header.
   pub reading-header : (l : List ℕ) (r : Reading) → AllBits l → reading l ≡ accepted r → take (r .size) l ≡ header (r .pdu)
   -- Each type is the one with its number.
-  pub from-raw : (t : LlcPduType) → fromRaw (raw t) ≡ TypeOf.Type t
+  pub from-raw : (t : LlcPduType) → fromRaw (raw t) ≡ accepted t
+  -- Its number is the one that the four bits of its PDUs spell.
+  pub raw-bits : (t : LlcPduType) → value (firstBits t) ≡ raw t
+  -- A header begins with the four bits of its PDU's type.
+  pub header-type : (p : Pdu) → take 4 (header p) ≡ firstBits (typeOf p)
+  -- The bits of the bytes before the one that a header ends in, and its bits there, are all its bits.
+  pub header-ends : (p : Pdu) → 8 * headerEnd p .byte + headerEnd p .bits ≡ length (header p)
   -- The bytes handed back hold the SDU, from the place beside them on.
   pub held-bits :
       (f : List ℕ) (first n : ℕ)

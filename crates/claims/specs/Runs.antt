@@ -2,8 +2,8 @@
 use Prim.Native.Nat.{ℕ}
 use mathlib.Core.Path.{_≡_}
 use mathlib.Core.Bool.{true}
-use Rattle.llc_rule.specs.Claim.{unhindered}
-use Rattle.llc_runs.specs.Claim.{Claim, SeesItsOwnPast}
+use Rattle.llc_rule.specs.Claim.{SeesItsOwnPast, unhindered}
+use Rattle.llc_runs.specs.Claim.{Claim, receiptsAfter}
 use Rattle.llc_runs.specs.Runs.{begin, run}
 use Rattle.llc_runs.proofs.Instance.{lents, zeroStore}
 
@@ -12,4 +12,4 @@ pub record Runs : Type 0 where
   pub claim : Claim
   -- The hypothesis of demand 3 can be met.
   pub unhindered-lents : unhindered (run (begin zeroStore) lents) ≡ true
-  pub sees-lents : (a : ℕ) → SeesItsOwnPast zeroStore lents a
+  pub sees-lents : (a : ℕ) → SeesItsOwnPast (run (begin zeroStore) lents) (receiptsAfter zeroStore lents) a

@@ -44,6 +44,7 @@ pub record FitsDue (d : Due) : Type 0 where
 abbrev pub FitsLink : Link → Type 0
 FitsLink l = AllHeld (λ (n : ℕ). n < 2 ^ 16) FitsSent FitsDue l
 
+-- The new link holds nothing.
 pub new-fits : FitsLink new
 unfolding new
 new-fits = record { carrier = omega arith; acknowledged = tt; unacknowledged = tt; due = tt }
@@ -120,6 +121,7 @@ fits-step l h c a = held-step _ _ _ l h c (brings-in (parsed c) (parsed-fits c a
 
 -- The records -------------------------------------------------------------------------------------------------------------
 
+-- A slot that steals.
 slot-at-most : (t : ℕ) → stealsSlot t ≡ true → t ≤ 4
 slot-at-most t h = leb-true t 4 (both {x = leb 2 t} h .1)
 

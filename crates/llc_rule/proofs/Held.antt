@@ -49,6 +49,7 @@ all-others P p l (first x xs) s a = all-found P p l x xs s a .1
 -- The two passes over acknowledged messages: what is put out and what stays, for a P of messages and a Q of records where each
 -- message with P makes a record with Q.
 module _ (P : Sent → Type 0) (Q : Record → Type 0) (make : (s : Sent) → P s → Q (acknowledged s)) where
+  -- It is so of a visit, or of a walk.
   pub record Passed {S : Type 0} (v : Visit S Message Record) : Type 0 where
     pub out : All Q (v .out)
     pub stays : All (λ (m : Message). P (m .sent)) (v .stays)
@@ -103,6 +104,7 @@ module _ (P : Sent → Type 0) (Q : Record → Type 0) (make : (s : Sent) → P 
       (passed-stay s m h)
       (record { out = (make (m .sent) h, tt); stays = (h, tt) }))
 
+  -- The first pass, and the second.
   pub passed-retransmissions : (l : Link) → All (λ (m : Message). P (m .sent)) (l .acknowledged) → Passed (retransmissions l)
   unfolding retransmissions
   passed-retransmissions l a =
@@ -114,6 +116,7 @@ module _ (P : Sent → Type 0) (Q : Record → Type 0) (make : (s : Sent) → P 
 
 -- What a link holds, for a C of main carriers, a P of messages and a D of due acknowledgements.
 module _ (C : ℕ → Type 0) (P : Sent → Type 0) (D : Due → Type 0) where
+  -- It is so of all.
   pub record AllHeld (l : Link) : Type 0 where
     pub carrier : C (l .carrier)
     pub acknowledged : All (λ (m : Message). P (m .sent)) (l .acknowledged)
@@ -137,7 +140,7 @@ module _ (C : ℕ → Type 0) (P : Sent → Type 0) (D : Due → Type 0) where
   Brings (report receipt how) = Unit {0}
   Brings (release receipt) = Unit {0}
 
-  -- What an outcome leaves of a link.
+  -- What an outcome leaves of a link is so.
   abbrev Leaves : Link → Outcome (Done Link) → Type 0
   Leaves l o = AllHeld (left l o)
 

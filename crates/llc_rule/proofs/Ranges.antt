@@ -10,6 +10,7 @@ use Rattle.llc_rule.specs.Calls.{Request, Frame}
 use Rattle.llc_rule.specs.Ranges.{hasMask, isType, isReceipt, requestInRange, frameInRange}
 use Rattle.llc_rule.proofs.Lists.{by-test, both}
 
+-- The fields of a request.
 pub record RequestFields (r : Request) : Type 0 where
   pub type : isType (r .type) ≡ true
   pub mask : ltb (r .mask) 16 ≡ true
@@ -31,6 +32,7 @@ request-fields r h =
     let h₈ = both {y = leb (r .given) 1} (h₇ .0) in
     record { type = h₈ .0; mask = h₅ .1; given = h₄ .1; receipt = h₃ .1; block = h₂ .1; sdu = h₁ .1 }
 
+-- The fields of a frame.
 pub record FrameFields (f : Frame) : Type 0 where
   pub type : isType (f .type) ≡ true
   pub block : leb (length (f .block)) 64 ≡ true

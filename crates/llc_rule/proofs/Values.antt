@@ -14,6 +14,7 @@ use Rattle.llc_rule.specs.Calls.{Call, start, tickStart, tickEnd, dataRe
 use Rattle.llc_rule.specs.Sound.{All}
 use Rattle.llc_rule.proofs.Held.{asked}
 
+-- A number that one byte holds.
 abbrev pub IsByte : ℕ → Type 0
 IsByte b = b < 256
 
@@ -59,6 +60,7 @@ pub record FrameFits (f : Frame) : Type 0 where
   pub endpoint : f .endpoint < 2 ^ 32
   pub pdu : AllBits (f .pdu)
 
+-- What they give of a call, and of what bytes are parsed as.
 abbrev pub CallFits : Call → Type 0
 CallFits (start carrier t251) = carrier < 2 ^ 16
 CallFits (tickStart time) = Unit {0}
