@@ -39,7 +39,7 @@ struct wipturay_entry {
     uint32_t req_handle;
     bool stealing_permission;
     bool has_mask;
-    uint8_t mask;      /**< Timeslot mask; 0 where there is none. */
+    uint8_t mask;      /**< Timeslot mask, if there is one. */
     uint8_t receipt;   /**< The number of its receipt. */
     size_t block_len;
     uint8_t block[64]; /**< Pass-through block, of which block_len bytes count. */

@@ -63,5 +63,5 @@ pub record StateAndStore : Type 0 where
       → e .place < 96
       → eqb (e .place) p ≡ false
       → length vs ≤ 2688
-      → e .len ≤ 2601
+      → e .len ≤ 2688
       → frameIn (splice store (placeBit p) vs) e ≡ frameIn store e

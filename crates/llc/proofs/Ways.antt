@@ -88,14 +88,15 @@ module _
   goes-through : questionOf d (s .started) ≡ 0 → delivered s store out (performed (decoded d bytes) s store) ≡ callOf s store out bytes
   goes-through h = sym (called-is ∙ ap (delivered s store out) (told d bytes s store inside .1 (eq-eqb _ 0 h)))
 
--- A call that goes through is in range.
-through-by : (n : ℕ) (a b : Bool) → eqb (cond (eqb n 0) (cond a (cond b 0 5) 4) n) 0 ≡ true → b ≡ true
-through-by n a true h = refl
-through-by n a false h = by-test (eqb n 0) (λ e. by-test a (λ k. clash (rw (e, k) at h) refl) (λ k. clash (rw (e, k) at h) refl)) (λ e. clash (rw e at h) e)
+-- A call that goes through is a start or finds the link started, and is in range.
+through-by : (n : ℕ) (a b : Bool) → eqb (cond (eqb n 0) (cond a (cond b 0 5) 4) n) 0 ≡ true → (a ≡ true) × (b ≡ true)
+through-by n true true h = (refl, refl)
+through-by n true false h = by-test (eqb n 0) (λ e. clash (rw e at h) refl) (λ e. clash (rw e at h) e)
+through-by n false b h = by-test (eqb n 0) (λ e. clash (rw e at h) refl) (λ e. clash (rw e at h) e)
 
-through-in-range : (d : Decoded) (started : Bool) → questionOf d started ≡ 0 → inRangeOf d ≡ true
+through-tells : (d : Decoded) (started : Bool) → questionOf d started ≡ 0 → (startsOf d || started ≡ true) × (inRangeOf d ≡ true)
 unfolding questionOf
-through-in-range d started h = through-by (unreadOf d) (startsOf d || started) (inRangeOf d) (eq-eqb _ 0 h)
+through-tells d started h = through-by (unreadOf d) (startsOf d || started) (inRangeOf d) (eq-eqb _ 0 h)
 
 -- As many bytes as asked for are eight times as many bits.
 pub lent-bits : (store out : List ℕ) → eqb (length store) 32256 && leb 46656 (length out) ≡ lentRight (bits store) out
@@ -147,6 +148,7 @@ pub record Passed (s : State) (store out bytes : List ℕ) (d : Decoded) : Type 
   pub state : inRange s ≡ true
   pub places : length store ≡ 32256
   pub room : 46656 ≤ length out
+  pub on : startsOf d || s .started ≡ true
   pub values : inRangeOf d ≡ true
   pub inside : Inside d bytes
   pub through : delivered s (bits store) out (performed (decoded d bytes) s (bits store)) ≡ callOf s (bits store) out bytes
@@ -167,11 +169,13 @@ passed s store out bytes d {lent} {fits} l t f u read inside q z =
     let range : inRange s ≡ true = sym f ∙ not-false fits u in
     let asked : questionOf d (s .started) ≡ 0 = sym q ∙ z in
     let long = lent-tells store out right in
+    let tells = through-tells d (s .started) asked in
     record {
       state = range;
       places = long .0;
       room = long .1;
-      values = through-in-range d (s .started) asked;
+      on = tells .0;
+      values = tells .1;
       inside = inside;
       through = goes-through s (bits store) out bytes d right range read inside asked;
     }
@@ -197,6 +201,9 @@ module _ {call d : Decoded} (e : call ≡ d) where
 
   pub ranged : inRangeOf call ≡ true → inRangeOf d ≡ true
   ranged h = sym (ap inRangeOf e) ∙ h
+
+  pub started : (on : Bool) → startsOf call || on ≡ true → startsOf d || on ≡ true
+  started on h = sym (ap (λ (a : Decoded). startsOf a || on) e) ∙ h
 
   pub insideOf : (bytes : List ℕ) → Inside call bytes → Inside d bytes
   insideOf bytes h = subst (λ (a : Decoded). Inside a bytes) e h

@@ -7,7 +7,7 @@ use borrow.Author.Tests.{ltb-true}
 use Rattle.llc_rule.specs.Lists.{all}
 use Rattle.llc_rule.specs.Messages.{slotBefore}
 use Rattle.llc_calls.specs.declared.FrameCall.{FrameCall}
-use Rattle.llc_state.specs.Ranges.{entryInRange, inRange}
+use Rattle.llc_state.specs.Ranges.{messageInRange, inRange}
 use Rattle.llc_state.specs.declared.State.{State}
 use Rattle.llc_state.proofs.InRange.{range-tells}
 use Rattle.llc_steps.specs.Calls.{ackRoom}
@@ -43,7 +43,7 @@ module _ (s : State) (f : FrameCall) (n : SeqNumbers) where
       {next : State}
       → next ≡ withAcks s (dueTo f (nsIn n) s)
       → inRange s ≡ true
-      → (next .«n_messages» ≤ 64) × (all entryInRange (messagesOf next) ≡ true)
+      → (next .«n_messages» ≤ 64) × (all messageInRange (messagesOf next) ≡ true)
   same-queue e h =
       let r = range-tells s h in
       rw e (r .head .messages, r .messages)

@@ -4,20 +4,18 @@ use native.Mathlib.Omega.{arith}
 use mathlib.Core.Path.{_≡_, _∙_, refl, sym, ap}
 use mathlib.Core.Bool.{Bool, true, false, not, _&&_, _||_}
 use mathlib.Core.List.{List, [], _∷_, _++_}
-use borrow.Author.Tests.{ltb-true}
-use lib.Dec.{eqb, leb, ltb}
+use lib.Dec.{eqb}
 use lib.ListN.{length, getD, take, drop, drop-of-length-le, length-take}
 use lib.Seq.{drop-cons, getD-take, length-take-le}
-use Rattle.tdma_time.specs.Slots.{valid}
 use Rattle.tx_receipt.specs.Marks.{acknowledged, allowed}
 use Rattle.llc_rule.specs.Lists.{all, Found, nothing, first, behind, find}
-use Rattle.llc_rule.specs.Ranges.{isType, isReceipt}
 use Rattle.llc_rule.proofs.Lists.{by-test, both, if-true, if-false}
-use Rattle.llc_state.specs.Ranges.{isSsi, entryInRange}
+use Rattle.llc_state.specs.Ranges.{messageInRange}
 use Rattle.llc_state.specs.Receipts.{receiptOf, placeOf, markReceipt}
 use Rattle.llc_state.specs.declared.Entry.{Entry}
 use Rattle.llc_state.specs.declared.ReceiptPlace.{ReceiptPlace}
 use Rattle.llc_state.specs.declared.State.{State}
+use Rattle.llc_state.proofs.InRange.{entry-tells, message-tells}
 use Rattle.llc_steps.specs.Calls.{fits, finishable}
 use Rattle.llc_steps.specs.Queues.{position, without, fronted}
 use Rattle.llc_steps.specs.States.{messagesOf, withMessages}
@@ -65,23 +63,6 @@ module _ {A : Type 0} where
   all-at p (x ∷ l) zero d a h = both {x = p x} {y = all p l} a .0
   all-at p (x ∷ l) (suc i) d a h = all-at p l i d (both {x = p x} {y = all p l} a .1) (omega (arith, h))
 
--- The receipt of a message in range is one of the 128.
-receipt-below : (e : Entry) → entryInRange e ≡ true → e .receipt < 128
-unfolding entryInRange
-receipt-below e h =
-    let x : Bool = isSsi (e .ssi) && isType (e .«ssi_type») && ltb (e .mask) 16 && (e .«has_mask» || eqb (e .mask) 0) in
-    let r : Bool = isReceipt (e .receipt) in
-    let b : Bool = leb (e .«block_len») 64 in
-    let p : Bool = ltb (e .place) 96 in
-    let n : Bool = leb (e .len) 2601 in
-    let c : Bool = leb (e .«retransmit_count») 3 in
-    let upToCount = both {x = x && r && b && p && n && c} {y = valid (e .«t_umac_done»)} h .0 in
-    let upToLen = both {x = x && r && b && p && n} {y = c} upToCount .0 in
-    let upToPlace = both {x = x && r && b && p} {y = n} upToLen .0 in
-    let upToBlock = both {x = x && r && b} {y = p} upToPlace .0 in
-    let upToReceipt = both {x = x && r} {y = b} upToBlock .0 in
-    ltb-true (e .receipt) 128 (both {x = x} {y = r} upToReceipt .1)
-
 module _ (s : State) (i : ℕ) (nr : Bool) (long : s .«n_messages» ≤ length (s .«outbound_messages»)) where
   -- No message stands in the place.
   pub none-finishes : s .«n_messages» ≤ i → true ≡ finishable nr (foundAt i (messagesOf s)) s
@@ -100,10 +81,11 @@ module _ (s : State) (i : ℕ) (nr : Bool) (long : s .«n_messages» ≤ length 
     found : foundAt i (messagesOf s) ≡ first entry (without i (messagesOf s))
     found = found-first (s .«n_messages») i (s .«outbound_messages») d long h
 
-    pub receipt-in : all entryInRange (messagesOf s) ≡ true → entry .receipt < 128
+    pub receipt-in : all messageInRange (messagesOf s) ≡ true → entry .receipt < 128
     receipt-in a =
-        let e = all-at entryInRange (messagesOf s) i d a (omega (arith, length-take-le (s .«n_messages») (s .«outbound_messages») long)) in
-        receipt-below entry (rw (getD-take (s .«n_messages») (s .«outbound_messages») i d h) at e)
+        let e = all-at messageInRange (messagesOf s) i d a (omega (arith, length-take-le (s .«n_messages») (s .«outbound_messages») long)) in
+        let m = message-tells entry (rw (getD-take (s .«n_messages») (s .«outbound_messages») i d h) at e) in
+        entry-tells entry (m .entry) .receipt
 
     -- By whether the acknowledgement fits it.
     finishes :

@@ -14,7 +14,7 @@ ghost use Rattle.llc_rule.specs.Records.{allBytes, indicationBytes};
 ghost use Rattle.llc_calls.specs.Decoded.{frameOf, FrameInside};
 ghost use Rattle.llc_calls.specs.Ranges.{frameRange};
 ghost use Rattle.llc_records.specs.Wrote.{Wrote};
-ghost use Rattle.llc_state.specs.Ranges.{entryInRange, inRange};
+ghost use Rattle.llc_state.specs.Ranges.{messageInRange, inRange};
 ghost use Rattle.llc_steps.specs.Answers.{WithAnyStore};
 ghost use Rattle.llc_steps.specs.Calls.{ackRoom, fits as fitsTo, finishable, onReceived};
 ghost use Rattle.llc_steps.specs.States.{messagesOf, withAcks};
@@ -193,7 +193,7 @@ fn may_finish(state: State, i: usize, nr: bool) -> bool
 // An acknowledgement for the message of a place: it finishes the message, or the message goes back to the head of the queue.
 fn process_incoming_ack(state: State, i: usize, nr: bool) -> State
     requires { ⌜ state .«n_messages» ≤ 64 ⌝ }
-    requires { ⌜ all entryInRange (messagesOf state) ≡ true ⌝ }
+    requires { ⌜ all messageInRange (messagesOf state) ≡ true ⌝ }
     ensures { λ r. ⌜ r ≡ answeredAt nr (foundAt i (messagesOf state)) state ⌝ }
 {
     if state.n_messages <= i {
@@ -211,6 +211,7 @@ fn process_incoming_ack(state: State, i: usize, nr: bool) -> State
 fn acknowledge(state: State, f: FrameCall, numbers: SeqNumbers) -> State
     requires { ⌜ inRange state ≡ true ⌝ }
     requires { ⌜ ackRoom (nsIn numbers) state ≡ true ⌝ }
+    requires { ⌜ state .started ≡ true ⌝ }
     ensures { λ r. ⌜ r ≡ withAcks state (dueTo f (nsIn numbers) state) ⌝ }
 {
     if !numbers.has_ns {
@@ -242,6 +243,7 @@ fn rx_tma_unitdata_ind_bl(
     requires { ⌜ frameRange f ≡ true ⌝ }
     requires { ⌜ FrameInside f (now bytes) ⌝ }
     requires { ⌜ SduLent (now sdu) place len ⌝ }
+    requires { ⌜ state .started ≡ true ⌝ }
     ensures { λ r. ⌜ WithAnyStore r (now (out .exit)) state (now (out .entry)) (λ (store : List ℕ). onReceived (frameOf f (now (bytes .entry))) (accepted (record { header = pdu; sdu = part (bits (now (sdu .entry))) place len })) state store) ⌝ }
 {
     let numbers = seq_numbers(pdu);
@@ -267,6 +269,7 @@ pub fn rx_tma_unitdata_ind(state: State, out: &mut [u8], f: FrameCall, bytes: &[
     requires { ⌜ 46656 ≤ length (now out) ⌝ }
     requires { ⌜ frameRange f ≡ true ⌝ }
     requires { ⌜ FrameInside f (now bytes) ⌝ }
+    requires { ⌜ state .started ≡ true ⌝ }
     ensures { λ r. ⌜ WithAnyStore r (now (out .exit)) state (now (out .entry)) (λ (store : List ℕ). onReceived (frameOf f (now (bytes .entry))) (received (frameOf f (now (bytes .entry)) .pdu)) state store) ⌝ }
 {
     let at = f.pdu;

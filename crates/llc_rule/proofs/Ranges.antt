@@ -6,6 +6,7 @@ use mathlib.Core.Bool.{true, _||_}
 use borrow.Author.Tests.{eqb-true, leb-true}
 use lib.Dec.{eqb, leb, ltb}
 use lib.ListN.{length}
+use Rattle.llc_pdus.specs.Writes.{longest}
 use Rattle.llc_rule.specs.Calls.{Request, Frame}
 use Rattle.llc_rule.specs.Ranges.{hasMask, isType, isReceipt, requestInRange, frameInRange}
 use Rattle.llc_rule.proofs.Lists.{by-test, both}
@@ -17,12 +18,12 @@ pub record RequestFields (r : Request) : Type 0 where
   pub given : hasMask r || eqb (r .mask) 0 ≡ true
   pub receipt : isReceipt (r .receipt) ≡ true
   pub block : leb (length (r .block)) 64 ≡ true
-  pub sdu : leb (length (r .sdu)) 2595 ≡ true
+  pub sdu : leb (length (r .sdu)) longest ≡ true
 
 pub request-fields : (r : Request) → requestInRange r ≡ true → RequestFields r
 unfolding requestInRange
 request-fields r h =
-    let h₁ = both {y = leb (length (r .sdu)) 2595} h in
+    let h₁ = both {y = leb (length (r .sdu)) longest} h in
     let h₂ = both {y = leb (length (r .block)) 64} (h₁ .0) in
     let h₃ = both {y = isReceipt (r .receipt)} (h₂ .0) in
     let h₄ = both {y = hasMask r || eqb (r .mask) 0} (h₃ .0) in
@@ -55,6 +56,6 @@ pub frame-lengths : (f : Frame) → frameInRange f ≡ true → (length (f .bloc
 frame-lengths f h =
     let t = frame-fields f h in (leb-true (length (f .block)) 64 (t .block), leb-true (length (f .pdu)) 2633 (t .pdu))
 
-pub request-lengths : (r : Request) → requestInRange r ≡ true → (length (r .block) ≤ 64) × (length (r .sdu) ≤ 2595)
+pub request-lengths : (r : Request) → requestInRange r ≡ true → (length (r .block) ≤ 64) × (length (r .sdu) ≤ longest)
 request-lengths r h =
-    let t = request-fields r h in (leb-true (length (r .block)) 64 (t .block), leb-true (length (r .sdu)) 2595 (t .sdu))
+    let t = request-fields r h in (leb-true (length (r .block)) 64 (t .block), leb-true (length (r .sdu)) longest (t .sdu))

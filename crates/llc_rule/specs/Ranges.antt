@@ -5,6 +5,7 @@ use mathlib.Core.Bool.{Bool, true, not, _&&_, _||_}
 use lib.Dec.{eqb, leb, ltb}
 use lib.ListN.{length}
 use Rattle.tdma_time.specs.Slots.{valid}
+use Rattle.llc_pdus.specs.Writes.{longest}
 use Rattle.llc_rule.specs.Calls.{Call, start, tickStart, tickEnd, dataRequest, unitdataRequest, frame, report, release, Request, Frame}
 
 -- "Flags: 1 steal, 2 FCS, 4 mask present."
@@ -34,7 +35,7 @@ requestInRange r =
     && (hasMask r || eqb (r .mask) 0)
     && isReceipt (r .receipt)
     && leb (length (r .block)) 64
-    && leb (length (r .sdu)) 2595
+    && leb (length (r .sdu)) longest
 
 unfoldable pub frameInRange : Frame → Bool
 frameInRange f = isType (f .type) && leb (length (f .block)) 64 && leb (length (f .pdu)) 2633

@@ -1,30 +1,108 @@
 -- What question 1 tells of a state, part by part.
-use Prim.Native.Nat.{_≤_}
-use mathlib.Core.Path.{_≡_}
-use mathlib.Core.Bool.{true, not, _||_}
-use borrow.Author.Tests.{leb-true, le-leb}
+use Prim.Native.Nat.{_+_, _≤_, _<_}
+use mathlib.Core.Path.{_≡_, refl}
+use mathlib.Core.Bool.{Bool, true, false, _&&_}
+use borrow.Author.Tests.{leb-true, ltb-true, le-leb}
 use lib.Dec.{leb, ltb}
 use lib.ListN.{take}
 use Rattle.tdma_time.specs.Slots.{valid}
+use Rattle.llc_pdus.specs.Writes.{longest}
 use Rattle.llc_rule.specs.Lists.{all}
-use Rattle.llc_rule.proofs.Lists.{both}
-use Rattle.llc_state.specs.Ranges.{entryInRange, ackInRange, rowInRange, placeInRange, headInRange, inRange}
+use Rattle.llc_rule.specs.Ranges.{isType, isReceipt}
+use Rattle.llc_rule.proofs.Lists.{both, and-true, clash}
+use Rattle.llc_state.specs.Ranges.{ifThere, isSsi, entryInRange, messageInRange, udataInRange, ackInRange, rowInRange, placeInRange, headInRange, inRange}
+use Rattle.llc_state.specs.declared.Entry.{Entry}
 use Rattle.llc_state.specs.declared.State.{State}
 
--- The counts, the time and T251.
+-- A flag and what is asked where it says so.
+pub there-tells : {there fits : Bool} → ifThere there fits ≡ true → there ≡ true → fits ≡ true
+there-tells {there = true} h e = h
+there-tells {there = false} h e = clash e refl
+
+pub there-holds : {there fits : Bool} → (there ≡ true → fits ≡ true) → ifThere there fits ≡ true
+there-holds {there = true} f = f refl
+there-holds {there = false} f = refl
+
+-- An entry of either queue.
+pub record Held (e : Entry) : Type 0 where
+  pub receipt : e .receipt < 128
+  pub block : e .«block_len» ≤ 64
+  pub place : e .place < 96
+
+pub entry-tells : (e : Entry) → entryInRange e ≡ true → Held e
+unfolding entryInRange
+entry-tells e h =
+    let c = both {y = ltb (e .place) 96} h in
+    let b = both {y = leb (e .«block_len») 64} (c .0) in
+    let a =
+    both {x = isSsi (e .ssi) && isType (e .«ssi_type») && ifThere (e .«has_mask») (ltb (e .mask) 16)} {y = isReceipt (e .receipt)} (b .0)
+    in
+    record { receipt = ltb-true _ _ (a .1); block = leb-true _ _ (b .1); place = ltb-true _ _ (c .1) }
+
+-- One of the acknowledged queue.
+pub record Message (e : Entry) : Type 0 where
+  pub entry : entryInRange e ≡ true
+  pub low : 5 ≤ e .len
+  pub high : e .len ≤ 6 + longest
+  pub count : e .«retransmit_count» ≤ 3
+  pub done : e .«has_umac_done» ≡ true → valid (e .«t_umac_done») ≡ true
+
+pub message-tells : (e : Entry) → messageInRange e ≡ true → Message e
+unfolding messageInRange
+message-tells e h =
+    let d = both {y = ifThere (e .«has_umac_done») (valid (e .«t_umac_done»))} h in
+    let c = both {y = leb (e .«retransmit_count») 3} (d .0) in
+    let b = both {y = leb (e .len) (6 + longest)} (c .0) in
+    let a = both {x = entryInRange e} {y = leb 5 (e .len)} (b .0) in
+    record {
+      entry = a .0;
+      low = leb-true _ _ (a .1);
+      high = leb-true _ _ (b .1);
+      count = leb-true _ _ (c .1);
+      done = there-tells (d .1);
+    }
+
+pub message-holds : (e : Entry) → Message e → messageInRange e ≡ true
+unfolding messageInRange
+message-holds e m =
+    rw (
+      m .entry,
+      le-leb 5 (e .len) (m .low),
+      le-leb (e .len) (6 + longest) (m .high),
+      le-leb (e .«retransmit_count») 3 (m .count),
+      there-holds (m .done),
+    )
+
+-- One of the unacknowledged queue.
+pub record Udata (e : Entry) : Type 0 where
+  pub entry : entryInRange e ≡ true
+  pub low : 4 ≤ e .len
+  pub high : e .len ≤ 5 + longest
+
+pub udata-tells : (e : Entry) → udataInRange e ≡ true → Udata e
+unfolding udataInRange
+udata-tells e h =
+    let b = both {y = leb (e .len) (5 + longest)} h in
+    let a = both {x = entryInRange e} {y = leb 4 (e .len)} (b .0) in
+    record { entry = a .0; low = leb-true _ _ (a .1); high = leb-true _ _ (b .1) }
+
+pub udata-holds : (e : Entry) → Udata e → udataInRange e ≡ true
+unfolding udataInRange
+udata-holds e u = rw (u .entry, le-leb 4 (e .len) (u .low), le-leb (e .len) (5 + longest) (u .high))
+
+-- The counts, and T251 and the time once they are set.
 pub record Head (s : State) : Type 0 where
   pub messages : s .«n_messages» ≤ 64
   pub udata : s .«n_udata» ≤ 32
   pub acks : s .«n_acks» ≤ 64
   pub rows : s .«n_rows» ≤ 256
-  pub timer : not (s .started) || ltb 0 (s .t251) ≡ true
-  pub time : valid (s .dltime) ≡ true
+  pub timer : s .started ≡ true → ltb 0 (s .t251) ≡ true
+  pub time : s .started ≡ true → valid (s .dltime) ≡ true
 
 pub head-tells : (s : State) → headInRange s ≡ true → Head s
 unfolding headInRange
 head-tells s h =
-    let f = both {y = valid (s .dltime)} h in
-    let e = both {y = not (s .started) || ltb 0 (s .t251)} (f .0) in
+    let e = both {y = ifThere (s .started) (ltb 0 (s .t251) && valid (s .dltime))} h in
     let d = both {y = leb (s .«n_rows») 256} (e .0) in
     let c = both {y = leb (s .«n_acks») 64} (d .0) in
     let b = both {y = leb (s .«n_udata») 32} (c .0) in
@@ -33,8 +111,8 @@ head-tells s h =
       udata = leb-true _ _ (b .1);
       acks = leb-true _ _ (c .1);
       rows = leb-true _ _ (d .1);
-      timer = e .1;
-      time = f .1;
+      timer = λ t. both {y = valid (s .dltime)} (there-tells (e .1) t) .0;
+      time = λ t. both {x = ltb 0 (s .t251)} (there-tells (e .1) t) .1;
     }
 
 pub head-holds : (s : State) → Head s → headInRange s ≡ true
@@ -45,15 +123,14 @@ head-holds s h =
       le-leb (s .«n_udata») 32 (h .udata),
       le-leb (s .«n_acks») 64 (h .acks),
       le-leb (s .«n_rows») 256 (h .rows),
-      h .timer,
-      h .time,
+      there-holds {there = s .started} {fits = ltb 0 (s .t251) && valid (s .dltime)} (λ t. and-true (h .timer t) (h .time t)),
     )
 
 -- The whole state.
 pub record InRange (s : State) : Type 0 where
   pub head : Head s
-  pub messages : all entryInRange (take (s .«n_messages») (s .«outbound_messages»)) ≡ true
-  pub udata : all entryInRange (take (s .«n_udata») (s .«outbound_udata_messages»)) ≡ true
+  pub messages : all messageInRange (take (s .«n_messages») (s .«outbound_messages»)) ≡ true
+  pub udata : all udataInRange (take (s .«n_udata») (s .«outbound_udata_messages»)) ≡ true
   pub acks : all ackInRange (take (s .«n_acks») (s .«scheduled_out_acks»)) ≡ true
   pub rows : all rowInRange (take (s .«n_rows») (s .«link_send_seq»)) ≡ true
   pub places : all placeInRange (s .receipts) ≡ true
@@ -64,8 +141,8 @@ range-tells s h =
     let e = both {y = all placeInRange (s .receipts)} h in
     let d = both {y = all rowInRange (take (s .«n_rows») (s .«link_send_seq»))} (e .0) in
     let c = both {y = all ackInRange (take (s .«n_acks») (s .«scheduled_out_acks»))} (d .0) in
-    let b = both {y = all entryInRange (take (s .«n_udata») (s .«outbound_udata_messages»))} (c .0) in
-    let a = both {y = all entryInRange (take (s .«n_messages») (s .«outbound_messages»))} (b .0) in
+    let b = both {y = all udataInRange (take (s .«n_udata») (s .«outbound_udata_messages»))} (c .0) in
+    let a = both {y = all messageInRange (take (s .«n_messages») (s .«outbound_messages»))} (b .0) in
     record { head = head-tells s (a .0); messages = a .1; udata = b .1; acks = c .1; rows = d .1; places = e .1 }
 
 pub in-range : (s : State) → InRange s → inRange s ≡ true

@@ -41,7 +41,7 @@ time-in-range s ts h v =
     let q = r .head in
     in-range (atTime s ts)
     (record {
-      head = record { messages = q .messages; udata = q .udata; acks = q .acks; rows = q .rows; timer = q .timer; time = v };
+      head = record { messages = q .messages; udata = q .udata; acks = q .acks; rows = q .rows; timer = q .timer; time = λ t. v };
       messages = r .messages;
       udata = r .udata;
       acks = r .acks;

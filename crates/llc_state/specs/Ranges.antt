@@ -1,9 +1,14 @@
 -- Question 1: "every count and value in the state handed in within its range".
-use Prim.Native.Nat.{ℕ}
+-- A value is in use if it lies below its array's count and, where a flag says whether it is there, the flag says so. The counts
+-- and the values in use are asked, and no others. T251 and the time are there once started; an entry of the unacknowledged
+-- queue has no N(S), no done time and no retransmissions.
+use Prim.Native.Nat.{ℕ, _+_}
 use mathlib.Core.Bool.{Bool, not, _&&_, _||_}
-use lib.Dec.{eqb, leb, ltb}
+use lib.Dec.{leb, ltb}
 use lib.ListN.{take}
 use Rattle.tdma_time.specs.Slots.{valid}
+use Rattle.llc_pdus.specs.Headers.{adata, bdata, udata, ack, lengthOf}
+use Rattle.llc_pdus.specs.Writes.{longest}
 use Rattle.llc_rule.specs.Lists.{all}
 use Rattle.llc_rule.specs.Ranges.{isType, isReceipt}
 use Rattle.llc_state.specs.declared.Entry.{Entry}
@@ -12,49 +17,62 @@ use Rattle.llc_state.specs.declared.ReceiptPlace.{ReceiptPlace}
 use Rattle.llc_state.specs.declared.LinkSendSeq.{LinkSendSeq}
 use Rattle.llc_state.specs.declared.State.{State}
 
+-- A value that a flag says is there is asked; one that is not there is not.
+abbrev pub ifThere : Bool → Bool → Bool
+ifThere there fits = not there || fits
+
 -- An SSI has 24 bits.
 abbrev pub isSsi : ℕ → Bool
 isSsi n = ltb n 16777216
 
+-- An entry of either queue.
 unfoldable pub entryInRange : Entry → Bool
 entryInRange e =
     isSsi (e .ssi)
     && isType (e .«ssi_type»)
-    && ltb (e .mask) 16
-    && (e .«has_mask» || eqb (e .mask) 0)
+    && ifThere (e .«has_mask») (ltb (e .mask) 16)
     && isReceipt (e .receipt)
     && leb (e .«block_len») 64
     && ltb (e .place) 96
-    && leb (e .len) 2601
+
+-- One of the acknowledged queue: its frame is the header of a BL-DATA or a BL-ADATA and the SDU.
+unfoldable pub messageInRange : Entry → Bool
+messageInRange e =
+    entryInRange e
+    && leb (lengthOf bdata) (e .len)
+    && leb (e .len) (lengthOf adata + longest)
     && leb (e .«retransmit_count») 3
-    && valid (e .«t_umac_done»)
+    && ifThere (e .«has_umac_done») (valid (e .«t_umac_done»))
+
+-- One of the unacknowledged queue: its frame is the header of a BL-UDATA or a BL-ACK and the SDU.
+unfoldable pub udataInRange : Entry → Bool
+udataInRange e = entryInRange e && leb (lengthOf udata) (e .len) && leb (e .len) (lengthOf ack + longest)
 
 unfoldable pub ackInRange : ScheduledOutAck → Bool
 ackInRange a = isSsi (a .ssi) && isType (a .«ssi_type») && leb 1 (a .ts) && leb (a .ts) 4
 
 -- A receipt that is taken is in one of the five states.
 unfoldable pub placeInRange : ReceiptPlace → Bool
-placeInRange p = not (p .taken) || ltb (p .state) 5
+placeInRange p = ifThere (p .taken) (ltb (p .state) 5)
 
 unfoldable pub rowInRange : LinkSendSeq → Bool
 rowInRange r = isSsi (r .ssi)
 
--- The counts, the time, and T251 once it is set.
+-- The counts, and T251 and the time once they are set.
 unfoldable pub headInRange : State → Bool
 headInRange s =
     leb (s .«n_messages») 64
     && leb (s .«n_udata») 32
     && leb (s .«n_acks») 64
     && leb (s .«n_rows») 256
-    && (not (s .started) || ltb 0 (s .t251))
-    && valid (s .dltime)
+    && ifThere (s .started) (ltb 0 (s .t251) && valid (s .dltime))
 
--- The values in use are those that the counts take in.
+-- The whole state.
 unfoldable pub inRange : State → Bool
 inRange s =
     headInRange s
-    && all entryInRange (take (s .«n_messages») (s .«outbound_messages»))
-    && all entryInRange (take (s .«n_udata») (s .«outbound_udata_messages»))
+    && all messageInRange (take (s .«n_messages») (s .«outbound_messages»))
+    && all udataInRange (take (s .«n_udata») (s .«outbound_udata_messages»))
     && all ackInRange (take (s .«n_acks») (s .«scheduled_out_acks»))
     && all rowInRange (take (s .«n_rows») (s .«link_send_seq»))
     && all placeInRange (s .receipts)

@@ -20,7 +20,7 @@ pub struct Entry {
     pub req_handle: u32,
     pub stealing_permission: bool,
     pub has_mask: bool,
-    /// Timeslot mask; 0 where there is none.
+    /// Timeslot mask, if there is one.
     pub mask: u8,
     /// The number of its receipt.
     pub receipt: u8,

@@ -3,27 +3,52 @@ ghost use Prim.Native.Nat.{_≤_};
 ghost use mathlib.Core.Path.{_≡_};
 ghost use lib.ListN.{take};
 ghost use Rattle.llc_rule.specs.Lists.{all};
-ghost use Rattle.llc_state.specs.Ranges.{entryInRange, ackInRange, placeInRange, rowInRange, headInRange, inRange};
+ghost use Rattle.llc_state.specs.Ranges.{entryInRange, messageInRange, udataInRange, ackInRange, placeInRange, rowInRange, headInRange, inRange};
 use crate::Entry;
 use crate::LinkSendSeq;
 use crate::ReceiptPlace;
 use crate::ScheduledOutAck;
 use crate::State;
+use llc_pdus::N251_BL_MAX_TLSDU_LEN_BITS;
 
-// A message that is held.
+// The fewest and the most bits of an acknowledged message's frame: a header of 5 or 6 bits, and the SDU.
+const SHORTEST_MESSAGE: usize = 5;
+
+const LONGEST_MESSAGE: usize = 6 + N251_BL_MAX_TLSDU_LEN_BITS;
+
+// Those of an unacknowledged message's: a header of 4 or 5 bits, and the SDU.
+const SHORTEST_UDATA: usize = 4;
+
+const LONGEST_UDATA: usize = 5 + N251_BL_MAX_TLSDU_LEN_BITS;
+
+// An entry of either queue.
 fn entry_in_range(e: Entry) -> bool
     ensures { λ r. ⌜ r ≡ entryInRange e ⌝ }
 {
     (e.ssi < 16_777_216)
         & ((e.ssi_type == 1) | (e.ssi_type == 2))
-        & (e.mask < 16)
-        & (e.has_mask | (e.mask == 0))
+        & (!e.has_mask | (e.mask < 16))
         & (e.receipt < 128)
         & (e.block_len <= 64)
         & (e.place < 96)
-        & (e.len <= 2601)
+}
+
+// An entry of the acknowledged queue.
+fn message_in_range(e: Entry) -> bool
+    ensures { λ r. ⌜ r ≡ messageInRange e ⌝ }
+{
+    entry_in_range(e)
+        & (SHORTEST_MESSAGE <= e.len)
+        & (e.len <= LONGEST_MESSAGE)
         & (e.retransmit_count <= 3)
-        & e.t_umac_done.is_valid()
+        & (!e.has_umac_done | e.t_umac_done.is_valid())
+}
+
+// An entry of the unacknowledged queue.
+fn udata_message_in_range(e: Entry) -> bool
+    ensures { λ r. ⌜ r ≡ udataInRange e ⌝ }
+{
+    entry_in_range(e) & (SHORTEST_UDATA <= e.len) & (e.len <= LONGEST_UDATA)
 }
 
 // An acknowledgement that is due.
@@ -50,11 +75,11 @@ fn row_in_range(row: LinkSendSeq) -> bool
 // The first n messages.
 fn messages_in_range(entries: [Entry; 64], n: usize) -> bool
     requires { ⌜ n ≤ 64 ⌝ }
-    ensures { λ r. ⌜ r ≡ all entryInRange (take n entries) ⌝ }
+    ensures { λ r. ⌜ r ≡ all messageInRange (take n entries) ⌝ }
 {
     let mut i = 0;
     while i < n {
-        if !entry_in_range(entries[i]) {
+        if !message_in_range(entries[i]) {
             return false;
         }
         i += 1;
@@ -65,11 +90,11 @@ fn messages_in_range(entries: [Entry; 64], n: usize) -> bool
 // The first n unacknowledged messages.
 fn udata_in_range(entries: [Entry; 32], n: usize) -> bool
     requires { ⌜ n ≤ 32 ⌝ }
-    ensures { λ r. ⌜ r ≡ all entryInRange (take n entries) ⌝ }
+    ensures { λ r. ⌜ r ≡ all udataInRange (take n entries) ⌝ }
 {
     let mut i = 0;
     while i < n {
-        if !entry_in_range(entries[i]) {
+        if !udata_message_in_range(entries[i]) {
             return false;
         }
         i += 1;
@@ -123,7 +148,7 @@ fn places_in_range(places: [ReceiptPlace; 128], n: usize) -> bool
 }
 
 impl State {
-    // The counts, the time and T251.
+    // The counts, and T251 and the time once they are set.
     fn head_in_range(self) -> bool
         ensures { λ r. ⌜ r ≡ headInRange self ⌝ }
     {
@@ -131,8 +156,7 @@ impl State {
             & (self.n_udata <= 32)
             & (self.n_acks <= 64)
             & (self.n_rows <= 256)
-            & (!self.started | (0 < self.t251))
-            & self.dltime.is_valid()
+            & (!self.started | ((0 < self.t251) & self.dltime.is_valid()))
     }
 
     /// Is every count, and every value in use, within its range?

@@ -178,8 +178,8 @@ pub frame-elsewhere :
     → e .place < 96
     → eqb (e .place) p ≡ false
     → length vs ≤ 2688
-    → e .len ≤ 2601
+    → e .len ≤ 2688
     → frameIn (splice store (placeBit p) vs) e ≡ frameIn store e
 unfolding frameIn
 frame-elsewhere store p vs e long inside there other fits short =
-    part-elsewhere store p (e .place) (e .len) vs long inside there other fits (omega arith)
+    part-elsewhere store p (e .place) (e .len) vs long inside there other fits short

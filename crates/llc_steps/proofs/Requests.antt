@@ -13,6 +13,7 @@ use Rattle.bits.specs.Bits.{splice}
 use Rattle.questions.specs.Outcome.{Outcome, accepted, ask}
 use Rattle.tx_receipt.specs.declared.TxReceipt.{TxReceipt}
 use Rattle.llc_pdus.specs.Headers.{header}
+use Rattle.llc_pdus.specs.Writes.{longest}
 use Rattle.llc_pdus.specs.declared.Pdu.{Pdu}
 use Rattle.llc_pdus.proofs.Laws.{header-short}
 use Rattle.llc_pdus.specs.declared.Pdu.the-variants.{BlUdata, BlAck}
@@ -39,7 +40,7 @@ use Rattle.llc_steps.specs.Places.{freePlace}
 use Rattle.llc_steps.specs.Calls.{entryOf, carrierFor, ackFor, seqOf, withSeq, dataPdu, withAcknowledged, withUnacknowledged, withStolen, receiptFree, rowFor, onData, onUnitdata}
 use Rattle.llc_state.specs.Receipts.{pendingPlace, placeOf}
 use Rattle.llc_state.proofs.Maps.{map-append, map-set, mapFound, find-map, any-map, others-map}
-use Rattle.llc_steps.specs.Holds.{keptIn, Ready}
+use Rattle.llc_steps.specs.Holds.{keptIn, Stored, Ready}
 use Rattle.llc_steps.proofs.Relaid.{relaid-in}
 use Rattle.llc_steps.proofs.Places.{free-place, part-there, frame-elsewhere}
 use Rattle.llc_state.proofs.Places.{place-in}
@@ -232,22 +233,21 @@ placed :
 placed s store pdu ok few short =
     let p : ℕ = freePlace s in
     let free = free-place s (omega (arith, ok .counted .messages, ok .counted .udata)) in
-    let P : Entry → Type 0 = λ e. (e .place < 96) × (e .len ≤ 2601) in
     let Q : Entry → Type 0 = λ e. eqb (e .place) p ≡ false in
-    let same : (e : Entry) → P e → Q e → frameIn (splice store (placeBit p) pdu) e ≡ frameIn store e =
-    λ e in-range other. frame-elsewhere store p pdu e (ok .long) (free .0) (in-range .0) other short (in-range .1)
+    let same : (e : Entry) → Stored e → Q e → frameIn (splice store (placeBit p) pdu) e ≡ frameIn store e =
+    λ e in-range other. frame-elsewhere store p pdu e (ok .long) (free .0) (in-range .0) other short (omega (arith, in-range .1))
     in
     record {
       there = λ n e. ap (Rattle.bits.specs.Bits.part (splice store (placeBit p) pdu) (placeBit p)) e ∙ part-there store p pdu (ok .long) (free .0) short;
-      messages = all-both P Q (λ (e : Entry). frameIn (splice store (placeBit p) pdu) e ≡ frameIn store e) (messagesOf s) same (ok .messages) (free .1);
-      udata = all-both P Q (λ (e : Entry). frameIn (splice store (placeBit p) pdu) e ≡ frameIn store e) (udataOf s) same (ok .udata) (free .2);
+      messages = all-both Stored Q (λ (e : Entry). frameIn (splice store (placeBit p) pdu) e ≡ frameIn store e) (messagesOf s) same (ok .messages) (free .1);
+      udata = all-both Stored Q (λ (e : Entry). frameIn (splice store (placeBit p) pdu) e ≡ frameIn store e) (udataOf s) same (ok .udata) (free .2);
     }
 
 -- A question that is asked alike, of two that agree where it is passed.
 pub ask-same : {A : Type 0} (n : ℕ) {b c : Bool} {x y : Outcome A} → b ≡ c → (b ≡ true → x ≡ y) → ask n b x ≡ ask n c y
 ask-same n {b} {c} {x} {y} e f = ap (λ (t : Bool). ask n b x) e ∙ by-test b (λ t. rw (← e, t) (f t)) (λ t. rw (← e, t))
 
-module _ (r : Request) (s : State) (store : List ℕ) (ok : Ready s store) (block : length (r .block) ≤ 64) (sdu : length (r .sdu) ≤ 2595) where
+module _ (r : Request) (s : State) (store : List ℕ) (ok : Ready s store) (block : length (r .block) ≤ 64) (sdu : length (r .sdu) ≤ longest) where
   pdu-short : (p : Pdu) → length (header p ++ r .sdu) ≤ 2688
   pdu-short p = omega (arith, length-append (header p) (r .sdu), header-short p)
 

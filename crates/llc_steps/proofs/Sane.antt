@@ -37,12 +37,12 @@ empty-sane started carrier t251 store r long =
 pub new-sane : (store : List ℕ) → length store ≡ 8 * 32256 → Sane newState store
 new-sane store long = empty-sane false 0 0 store new-in-range long
 
-acts-sane : (c : Call) (s : State) (store : List ℕ) → Sane s store → CallFits c → inRange c ≡ true → SaneAfter (acts c s store)
+acts-sane : (c : Call) (s : State) (store : List ℕ) → Sane s store → CallFits c → isStart c || s .started ≡ true → inRange c ≡ true → SaneAfter (acts c s store)
 unfolding acts inRange
-acts-sane (start carrier t251) s store ok v r =
+acts-sane (start carrier t251) s store ok v on r =
     let other : t251 ≡ 0 → ⊥ = eqb-false t251 0 (not-true (eqb t251 0) r) in
     empty-sane true carrier t251 store (started-in-range carrier t251 (lt-ltb 0 t251 (omega arith))) (ok .long)
-acts-sane (tickStart time) s store ok v r =
+acts-sane (tickStart time) s store ok v on r =
     record {
       messages = ok .messages;
       udata = ok .udata;
@@ -52,18 +52,18 @@ acts-sane (tickStart time) s store ok v r =
       range = time-in-range s time (ok .range) r;
       long = ok .long;
     }
-acts-sane tickEnd s store ok v r = ticked-sane s store ok
-acts-sane (dataRequest q) s store ok v r = data-sane q s store ok (v .ssi) r
-acts-sane (unitdataRequest q) s store ok v r = unitdata-sane q s store ok (v .ssi) r
-acts-sane (frame f) s store ok v r = received-sane f s store ok (v .ssi) r (received (f .pdu))
-acts-sane (report receipt how) s store ok v r = report-sane s store ok receipt how
-acts-sane (release receipt) s store ok v r = release-sane s store ok receipt
+acts-sane tickEnd s store ok v on r = ticked-sane s store ok on
+acts-sane (dataRequest q) s store ok v on r = data-sane q s store ok (v .ssi) r
+acts-sane (unitdataRequest q) s store ok v on r = unitdata-sane q s store ok (v .ssi) r
+acts-sane (frame f) s store ok v on r = received-sane f s store ok (v .ssi) r (received (f .pdu))
+acts-sane (report receipt how) s store ok v on r = report-sane s store ok receipt how
+acts-sane (release receipt) s store ok v on r = release-sane s store ok receipt
 
 called-sane : (o : Outcome Call) (s : State) (store : List ℕ) → Sane s store → CallFitsIn o → SaneAfter (called s store o)
 unfolding called
 called-sane (refused n) s store ok v = tt
 called-sane (accepted c) s store ok v =
-    ask-sane 4 (isStart c || s .started) _ (λ t. ask-sane 5 (inRange c) _ (λ r. acts-sane c s store ok v r))
+    ask-sane 4 (isStart c || s .started) _ (λ t. ask-sane 5 (inRange c) _ (λ r. acts-sane c s store ok v t r))
 
 -- What a call of any bytes leaves of a state and a store that passed question 1 passes it.
 pub steps-sane :

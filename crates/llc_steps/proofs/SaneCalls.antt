@@ -23,7 +23,7 @@ use Rattle.llc_rule.specs.Messages.{slotBefore}
 use Rattle.llc_rule.specs.Ranges.{isType, frameInRange}
 use Rattle.llc_rule.specs.Received.{Received, nsOf, nrOf}
 use Rattle.llc_rule.proofs.Lists.{both, either, FoundBy, find-by}
-use Rattle.llc_state.specs.Ranges.{ackInRange, entryInRange}
+use Rattle.llc_state.specs.Ranges.{ackInRange, messageInRange}
 use Rattle.llc_state.specs.Receipts.{receiptOf, placeOf}
 use Rattle.llc_state.specs.States.{noReceipt}
 use Rattle.llc_state.specs.declared.Entry.{Entry}
@@ -65,7 +65,7 @@ module _ (f : Frame) (s : State) (store : List ℕ) (ok : Sane s store) (ssi : f
 
   with-sane :
       (ms : List Entry) (ds : List ScheduledOutAck) (ps : List ReceiptPlace)
-      → Used entryInRange 64 ms
+      → Used messageInRange 64 ms
       → Used ackInRange 64 ds
       → Full ps
       → Sane (relaid s ms (udataOf s) ds ps (rowsOf s)) store
@@ -81,9 +81,9 @@ module _ (f : Frame) (s : State) (store : List ℕ) (ok : Sane s store) (ssi : f
   unfolding answeredBy
   answered-by-sane nr p nothing ds by d = with-sane (messagesOf s) ds (s .receipts) (messages-used s store ok) d (places-full s store ok)
   answered-by-sane nr p (first e es) ds by d =
-      let moved = found-first entryInRange 64 p (messagesOf s) e es by (messages-used s store ok) in
+      let moved = found-first messageInRange 64 p (messagesOf s) e es by (messages-used s store ok) in
       either (λ (t : State). Sane t store) (fits nr e)
-      (with-sane es ds _ (behind-first entryInRange 64 e es moved) d (marked-full Marks.acknowledged (e .receipt) (s .receipts) (places-full s store ok)))
+      (with-sane es ds _ (behind-first messageInRange 64 e es moved) d (marked-full Marks.acknowledged (e .receipt) (s .receipts) (places-full s store ok)))
       (with-sane (e ∷ es) ds (s .receipts) moved d (places-full s store ok))
 
   answered-sane : (x : Option Bool) (ds : List ScheduledOutAck) → Used ackInRange 64 ds → Sane (answered f x ds s) store

@@ -16,7 +16,7 @@ use Rattle.llc_rule.specs.Lists.{all, Found, nothing, first, others}
 use Rattle.llc_rule.specs.Sound.{All}
 use Rattle.llc_rule.proofs.Lists.{by-test, both, and-true, all-append, Split, FoundBy}
 use Rattle.llc_rule.proofs.SoundLists.{all-middle}
-use Rattle.llc_state.specs.Ranges.{entryInRange, ackInRange, rowInRange, placeInRange}
+use Rattle.llc_state.specs.Ranges.{ackInRange, rowInRange, placeInRange, messageInRange, udataInRange}
 use Rattle.llc_state.specs.Receipts.{receiptOf, placeOf, pendingPlace, markedPlace, mark}
 use Rattle.llc_state.specs.States.{noEntry, noAck, noReceipt, noRow}
 use Rattle.llc_state.specs.declared.Entry.{Entry}
@@ -140,15 +140,15 @@ module _ (s : State) (store : List ℕ) (ok : Sane s store) where
       (ok .range)
       (ok .long)
 
-  pub messages-used : Used entryInRange 64 (messagesOf s)
+  pub messages-used : Used messageInRange 64 (messagesOf s)
   messages-used =
       let r = range-tells s (ok .range) in
-      used-first entryInRange 64 (s .«n_messages») (s .«outbound_messages») (ok .messages) (r .head .messages) (r .messages)
+      used-first messageInRange 64 (s .«n_messages») (s .«outbound_messages») (ok .messages) (r .head .messages) (r .messages)
 
-  pub udata-used : Used entryInRange 32 (udataOf s)
+  pub udata-used : Used udataInRange 32 (udataOf s)
   udata-used =
       let r = range-tells s (ok .range) in
-      used-first entryInRange 32 (s .«n_udata») (s .«outbound_udata_messages») (ok .udata) (r .head .udata) (r .udata)
+      used-first udataInRange 32 (s .«n_udata») (s .«outbound_udata_messages») (ok .udata) (r .head .udata) (r .udata)
 
   pub acks-used : Used ackInRange 64 (acksOf s)
   acks-used =
@@ -166,8 +166,8 @@ module _ (s : State) (store : List ℕ) (ok : Sane s store) where
   -- The state with other elements in use, and a store that is as long.
   pub relaid-sane :
       (ms us : List Entry) (ds : List ScheduledOutAck) (ps : List ReceiptPlace) (rs : List LinkSendSeq) (after : List ℕ)
-      → Used entryInRange 64 ms
-      → Used entryInRange 32 us
+      → Used messageInRange 64 ms
+      → Used udataInRange 32 us
       → Used ackInRange 64 ds
       → Full ps
       → Used rowInRange 256 rs
@@ -194,8 +194,8 @@ module _ (s : State) (store : List ℕ) (ok : Sane s store) where
             (record {
               head = record { messages = m .few; udata = u .few; acks = d .few; rows = w .few; timer = q .timer; time = q .time };
               messages =
-                  ap (all entryInRange) (take-laid noEntry (s .«n_messages») ms (s .«outbound_messages»)) ∙ each-all entryInRange ms (m .each);
-              udata = ap (all entryInRange) (take-laid noEntry (s .«n_udata») us (s .«outbound_udata_messages»)) ∙ each-all entryInRange us (u .each);
+                  ap (all messageInRange) (take-laid noEntry (s .«n_messages») ms (s .«outbound_messages»)) ∙ each-all messageInRange ms (m .each);
+              udata = ap (all udataInRange) (take-laid noEntry (s .«n_udata») us (s .«outbound_udata_messages»)) ∙ each-all udataInRange us (u .each);
               acks = ap (all ackInRange) (take-laid noAck (s .«n_acks») ds (s .«scheduled_out_acks»)) ∙ each-all ackInRange ds (d .each);
               rows = ap (all rowInRange) (take-laid noRow (s .«n_rows») rs (s .«link_send_seq»)) ∙ each-all rowInRange rs (w .each);
               places = places .each;

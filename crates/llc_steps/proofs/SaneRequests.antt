@@ -1,33 +1,33 @@
 -- What a request leaves of a state and a store that passed question 1 passes it.
 use Prim.Native.Nat.{ℕ, suc, _+_, _≤_, _<_}
 use native.Mathlib.Omega.{arith}
-use mathlib.Core.Path.{_≡_, _∙_}
+use mathlib.Core.Path.{_≡_, _∙_, refl}
 use mathlib.Core.Bool.{Bool, true, false, not, false≢true}
 use mathlib.Core.List.{List, [], _∷_, _++_}
-use borrow.Author.Tests.{ltb-true, lt-ltb, le-leb}
+use borrow.Author.Tests.{ltb-true, lt-ltb}
 use lib.Dec.{eqb, ltb}
-use lib.ListN.{length}
+use lib.ListN.{length, length-append}
 use Rattle.bits.specs.Bits.{splice}
 use Rattle.bits.proofs.Laws.{length-splice}
 use Rattle.questions.specs.Outcome.{accepted}
-use Rattle.tdma_time.specs.Slots.{valid}
 use Rattle.llc_pdus.specs.Headers.{header}
+use Rattle.llc_pdus.specs.Writes.{longest}
 use Rattle.llc_pdus.specs.declared.Pdu.{Pdu}
 use Rattle.llc_pdus.specs.declared.Pdu.the-variants.{BlUdata, BlAck}
+use Rattle.llc_pdus.proofs.Laws.{header-short}
 use Rattle.llc_rule.specs.Lists.{any, Found, nothing, first, others}
 use Rattle.llc_rule.specs.Calls.{Request}
-use Rattle.llc_rule.specs.Ranges.{steals, wantsFcs, requestInRange}
-use Rattle.llc_rule.specs.Messages.{sentOf}
+use Rattle.llc_rule.specs.Ranges.{steals, wantsFcs, hasMask, requestInRange}
 use Rattle.llc_rule.specs.Sound.{All}
 use Rattle.llc_rule.specs.Step.{onAcknowledgedPath}
-use Rattle.llc_rule.proofs.Lists.{by-test, by-choice, either, find-by}
-use Rattle.llc_rule.proofs.Ranges.{request-fields}
-use Rattle.llc_rule.proofs.Room.{sent-small}
-use Rattle.llc_state.specs.Ranges.{entryInRange, ackInRange, rowInRange}
+use Rattle.llc_rule.proofs.Lists.{by-test, by-choice, either, clash, find-by}
+use Rattle.llc_rule.proofs.Ranges.{request-fields, request-lengths}
+use Rattle.llc_state.specs.Ranges.{entryInRange, messageInRange, udataInRange, ackInRange, rowInRange}
 use Rattle.llc_state.specs.View.{placeBit}
 use Rattle.llc_state.specs.declared.ScheduledOutAck.{ScheduledOutAck}
 use Rattle.llc_state.specs.declared.LinkSendSeq.{LinkSendSeq}
 use Rattle.llc_state.specs.declared.State.{State}
+use Rattle.llc_state.proofs.InRange.{there-holds, message-holds, udata-holds}
 use Rattle.llc_steps.specs.States.{messagesOf, udataOf, acksOf, rowsOf, Kept}
 use Rattle.llc_steps.specs.Places.{freePlace}
 use Rattle.llc_steps.specs.Calls.{entryOf, carrierFor, ackFor, seqOf, withSeq, dataPdu, withAcknowledged, withUnacknowledged, withStolen, receiptFree, rowFor, onData, onUnitdata}
@@ -69,25 +69,59 @@ length-with-seq-there a b (r ∷ rs) h =
 
 module _ (r : Request) (s : State) (store : List ℕ) (ok : Sane s store) (ssi : r .ssi < 16777216) (h : requestInRange r ≡ true) where
   -- The new entry is in range, and its frame lies within the store.
-  new-in-range :
-      (c k place len : ℕ) (ns : Bool)
-      → place < 96
-      → len ≤ 2601
-      → entryInRange (entryOf r c k place len ns) ≡ true
-  unfolding entryInRange entryOf valid
-  new-in-range c k place len ns inside short =
+  new-in-range : (c k place len : ℕ) (ns : Bool) → place < 96 → entryInRange (entryOf r c k place len ns) ≡ true
+  unfolding entryInRange entryOf
+  new-in-range c k place len ns inside =
       let t = request-fields r h in
-      rw (lt-ltb (r .ssi) 16777216 ssi, t .type, t .mask, t .given, t .receipt, t .block, lt-ltb place 96 inside, le-leb len 2601 short)
+      rw (lt-ltb (r .ssi) 16777216 ssi, t .type, there-holds {there = hasMask r} (λ e. t .mask), t .receipt, t .block, lt-ltb place 96 inside)
 
-  pdu-short : (p : Pdu) → length (header p ++ r .sdu) ≤ 2601
-  unfolding sentOf
-  pdu-short p = sent-small r 0 0 p h .pdu
+  sdu-short : length (r .sdu) ≤ longest
+  sdu-short = request-lengths r h .1
+
+  frame-long : (p : Pdu) → length (header p ++ r .sdu) ≡ length (header p) + length (r .sdu)
+  frame-long p = length-append (header p) (r .sdu)
+
+  message-in-range :
+      (c place : ℕ) (ns : Bool) (p : Pdu)
+      → place < 96
+      → 5 ≤ length (header p)
+      → messageInRange (entryOf r c 0 place (length (header p ++ r .sdu)) ns) ≡ true
+  unfolding entryOf
+  message-in-range c place ns p inside low =
+      message-holds _
+      (record {
+        entry = new-in-range c 0 place (length (header p ++ r .sdu)) ns inside;
+        low = omega (arith, low, frame-long p);
+        high = omega (arith, header-short p, sdu-short, frame-long p);
+        count = omega arith;
+        done = λ e. clash e refl;
+      })
+
+  udata-in-range :
+      (c k place : ℕ) (p : Pdu)
+      → place < 96
+      → 4 ≤ length (header p)
+      → length (header p) ≤ 5
+      → udataInRange (entryOf r c k place (length (header p ++ r .sdu)) false) ≡ true
+  unfolding entryOf
+  udata-in-range c k place p inside low high =
+      udata-holds _
+      (record {
+        entry = new-in-range c k place (length (header p ++ r .sdu)) false inside;
+        low = omega (arith, low, frame-long p);
+        high = omega (arith, high, sdu-short, frame-long p);
+      })
+
+  -- BL-DATA and BL-ADATA.
+  data-header : (ns : Bool) (x : Found ScheduledOutAck) → 5 ≤ length (header (dataPdu r ns x))
+  data-header ns nothing = omega arith
+  data-header ns (first a ds) = omega arith
 
   place-inside : s .«n_messages» + s .«n_udata» ≤ 95 → freePlace s < 96
   place-inside few = let n = sane-ready s store ok .counted in free-place s (omega (arith, n .messages, n .udata)) .0
 
   store-long : (p : Pdu) → freePlace s < 96 → length (splice store (placeBit (freePlace s)) (header p ++ r .sdu)) ≡ length store
-  store-long p inside = length-splice store (placeBit (freePlace s)) (header p ++ r .sdu) (omega (arith, ok .long, pdu-short p))
+  store-long p inside = length-splice store (placeBit (freePlace s)) (header p ++ r .sdu) (omega (arith, ok .long, header-short p, sdu-short, frame-long p))
 
   -- The acknowledgements due less the one that is used up, and the rows with the one that flips.
   acks-but : Used ackInRange 64 (others (ackFor r s) (acksOf s))
@@ -117,8 +151,8 @@ module _ (r : Request) (s : State) (store : List ℕ) (ok : Sane s store) (ssi :
       let p : Pdu = dataPdu r ns (ackFor r s) in
       let inside = place-inside (omega (arith, less, q .fewToo)) in
       relaid-sane s store ok _ _ _ _ _ _
-      (one-more entryInRange 64 (messagesOf s) _ (omega (arith, less, q .counted .messages))
-      (new-in-range (carrierFor r s) 0 (freePlace s) (length (header p ++ r .sdu)) ns inside (pdu-short p))
+      (one-more messageInRange 64 (messagesOf s) _ (omega (arith, less, q .counted .messages))
+      (message-in-range (carrierFor r s) (freePlace s) ns p inside (data-header ns (ackFor r s)))
       (messages-used s store ok))
       (udata-used s store ok)
       acks-but
@@ -128,18 +162,20 @@ module _ (r : Request) (s : State) (store : List ℕ) (ok : Sane s store) (ssi :
 
   unacknowledged-sane :
       (k : ℕ) (p : Pdu) (ds : List ScheduledOutAck)
+      → 4 ≤ length (header p)
+      → length (header p) ≤ 5
       → Used ackInRange 64 ds
       → ltb (s .«n_udata») 32 ≡ true
       → SaneAfter (accepted (withUnacknowledged r k p ds s store))
   unfolding withUnacknowledged
-  unacknowledged-sane k p ds d room =
+  unacknowledged-sane k p ds low high d room =
       let q = sane-ready s store ok in
       let less : s .«n_udata» < 32 = ltb-true (s .«n_udata») 32 room in
       let inside = place-inside (omega (arith, less, q .few)) in
       relaid-sane s store ok _ _ _ _ _ _
       (messages-used s store ok)
-      (one-more entryInRange 32 (udataOf s) _ (omega (arith, less, q .counted .udata))
-      (new-in-range (carrierFor r s) k (freePlace s) (length (header p ++ r .sdu)) false inside (pdu-short p))
+      (one-more udataInRange 32 (udataOf s) _ (omega (arith, less, q .counted .udata))
+      (udata-in-range (carrierFor r s) k (freePlace s) p inside low high)
       (udata-used s store ok))
       d
       (pending-full false (r .receipt) (s .receipts) (places-full s store ok))
@@ -152,8 +188,8 @@ module _ (r : Request) (s : State) (store : List ℕ) (ok : Sane s store) (ssi :
       → ltb (s .«n_udata») 32 ≡ true
       → SaneAfter (accepted (withStolen r s store f))
   unfolding withStolen
-  stolen-sane nothing d room = unacknowledged-sane 0 (BlUdata false) (acksOf s) d room
-  stolen-sane (first a ds) d room = unacknowledged-sane (r .link) (BlAck (wantsFcs r) (a .nr)) ds d room
+  stolen-sane nothing d room = unacknowledged-sane 0 (BlUdata false) (acksOf s) (omega arith) (omega arith) d room
+  stolen-sane (first a ds) d room = unacknowledged-sane (r .link) (BlAck (wantsFcs r) (a .nr)) ds (omega arith) (omega arith) d room
 
   -- The two requests.
   pub data-sane : SaneAfter (onData r s store)
@@ -175,4 +211,4 @@ module _ (r : Request) (s : State) (store : List ℕ) (ok : Sane s store) (ssi :
       ask-sane 6 (receiptFree r s) _
       (λ free.
       ask-sane 8 (ltb (s .«n_udata») 32) _
-      (λ room. unacknowledged-sane (r .link) (BlUdata false) (acksOf s) (acks-used s store ok) room))
+      (λ room. unacknowledged-sane (r .link) (BlUdata false) (acksOf s) (omega arith) (omega arith) (acks-used s store ok) room))

@@ -1,26 +1,25 @@
 -- What a tick end leaves of a state that passed question 1 passes it.
-use Prim.Native.Nat.{ℕ, _+_}
+use Prim.Native.Nat.{ℕ, _+_, _≤_}
 use native.Mathlib.Omega.{arith}
-use mathlib.Core.Path.{_≡_}
-use mathlib.Core.Bool.{Bool, true, not, _&&_, _||_}
+use mathlib.Core.Path.{_≡_, refl}
+use mathlib.Core.Bool.{Bool, true, not, _&&_}
 use mathlib.Core.List.{List, [], _∷_}
-use borrow.Author.Tests.{ltb-true, le-leb}
-use lib.Dec.{eqb, leb, ltb}
+use borrow.Author.Tests.{ltb-true}
+use lib.Dec.{ltb}
 use lib.ListN.{length, length-append}
 use Rattle.tdma_time.specs.Slots.{valid}
 use Rattle.tdma_time.specs.declared.TdmaTime.{TdmaTime}
 use Rattle.tx_receipt.specs.Marks as Marks
 use Rattle.llc_rule.specs.Lists.{among, Visit, walk}
 use Rattle.llc_rule.specs.Messages.{overdue, reported}
-use Rattle.llc_rule.specs.Ranges.{isType, isReceipt}
 use Rattle.llc_rule.specs.Sound.{All}
-use Rattle.llc_rule.proofs.Lists.{both, by-choice, either, all-append}
-use Rattle.llc_state.specs.Ranges.{isSsi, entryInRange}
+use Rattle.llc_rule.proofs.Lists.{by-choice, either, clash, all-append}
+use Rattle.llc_state.specs.Ranges.{entryInRange, messageInRange}
 use Rattle.llc_state.specs.Receipts.{receiptOf, placeOf}
 use Rattle.llc_state.specs.declared.Entry.{Entry}
 use Rattle.llc_state.specs.declared.ReceiptPlace.{ReceiptPlace}
 use Rattle.llc_state.specs.declared.State.{State}
-use Rattle.llc_state.proofs.InRange.{range-tells}
+use Rattle.llc_state.proofs.InRange.{message-tells, message-holds, range-tells}
 use Rattle.llc_steps.specs.States.{messagesOf, rowsOf}
 use Rattle.llc_steps.specs.Sane.{Sane}
 use Rattle.llc_steps.specs.TickEnd.{submitted, doneAt, timed, aged, retransmission, Sending, firstSending, retransmissions, firstSendings, ticked}
@@ -56,46 +55,26 @@ visited-walk p Q f h s (x ∷ l) q a =
 one-stays : {A : Type 0} (p : A → Bool) (x : A) → p x ≡ true → Used p 1 (x ∷ [])
 one-stays p x e = record { few = omega arith; each = (e, tt) }
 
--- What question 1 says of an entry, apart from how often it was sent again and its done time.
-abbrev restInRange : Entry → Bool
-restInRange e =
-    isSsi (e .ssi)
-    && isType (e .«ssi_type»)
-    && ltb (e .mask) 16
-    && (e .«has_mask» || eqb (e .mask) 0)
-    && isReceipt (e .receipt)
-    && leb (e .«block_len») 64
-    && ltb (e .place) 96
-    && leb (e .len) 2601
-
-record EntryParts (e : Entry) : Type 0 where
-  rest : restInRange e ≡ true
-  count : leb (e .«retransmit_count») 3 ≡ true
-  time : valid (e .«t_umac_done») ≡ true
-
-entry-tells : (e : Entry) → entryInRange e ≡ true → EntryParts e
+-- An entry stays in range where it is passed down, and where it gets its done time.
+pub submitted-in-range : (k : ℕ) (e : Entry) → k ≤ 3 → messageInRange e ≡ true → messageInRange (submitted k e) ≡ true
 unfolding entryInRange
-entry-tells e h =
-    let last = both {x = restInRange e && leb (e .«retransmit_count») 3} {y = valid (e .«t_umac_done»)} h in
-    let next = both {x = restInRange e} {y = leb (e .«retransmit_count») 3} (last .0) in
-    record { rest = next .0; count = next .1; time = last .1 }
+submitted-in-range k e few h =
+    let m = message-tells e h in
+    message-holds (submitted k e) (record { entry = m .entry; low = m .low; high = m .high; count = few; done = λ t. clash t refl })
 
--- So an entry stays in range where it is passed down, and where it gets its done time.
-submitted-in-range : (k : ℕ) (e : Entry) → leb k 3 ≡ true → entryInRange e ≡ true → entryInRange (submitted k e) ≡ true
+pub done-in-range : (time : TdmaTime) (e : Entry) → valid time ≡ true → messageInRange e ≡ true → messageInRange (doneAt time e) ≡ true
 unfolding entryInRange
-submitted-in-range k e few h = let t = entry-tells e h in rw (t .rest, few, t .time)
+done-in-range time e v h =
+    let m = message-tells e h in
+    message-holds (doneAt time e) (record { entry = m .entry; low = m .low; high = m .high; count = m .count; done = λ t. v })
 
-done-in-range : (time : TdmaTime) (e : Entry) → valid time ≡ true → entryInRange e ≡ true → entryInRange (doneAt time e) ≡ true
-unfolding entryInRange
-done-in-range time e v h = let t = entry-tells e h in rw (t .rest, t .count, v)
-
-timed-in-range :
+pub timed-in-range :
     (time : TdmaTime) (ps : List ReceiptPlace) (e : Entry)
     → valid time ≡ true
-    → entryInRange e ≡ true
-    → entryInRange (timed time ps e) ≡ true
+    → messageInRange e ≡ true
+    → messageInRange (timed time ps e) ≡ true
 timed-in-range time ps e v h =
-    either (λ (x : Entry). entryInRange x ≡ true)
+    either (λ (x : Entry). messageInRange x ≡ true)
     (not (e .«has_umac_done») && (placeOf ps (e .receipt) .taken && reported (receiptOf (placeOf ps (e .receipt)))))
     (done-in-range time e v h)
     h
@@ -104,29 +83,28 @@ timed-in-range time ps e v h =
 aged-visited :
     (time : TdmaTime) (t251 : ℕ) (ps : List ReceiptPlace) (e : Entry)
     → Full ps
-    → entryInRange e ≡ true
-    → Visited entryInRange Full 1 (aged time t251 ps e)
+    → messageInRange e ≡ true
+    → Visited messageInRange Full 1 (aged time t251 ps e)
 aged-visited time t251 ps e n h =
-    either (Visited entryInRange Full 1) (e .«has_umac_done» && overdue time t251 (e .«t_umac_done»))
-    (by-choice (Visited entryInRange Full 1) (ltb (e .«retransmit_count») 3)
+    either (Visited messageInRange Full 1) (e .«has_umac_done» && overdue time t251 (e .«t_umac_done»))
+    (by-choice (Visited messageInRange Full 1) (ltb (e .«retransmit_count») 3)
     (λ t.
     record {
       stays =
-          one-stays entryInRange (submitted (e .«retransmit_count» + 1) e)
-          (submitted-in-range (e .«retransmit_count» + 1) e
-          (le-leb (e .«retransmit_count» + 1) 3 (omega (arith, ltb-true (e .«retransmit_count») 3 t))) h);
+          one-stays messageInRange (submitted (e .«retransmit_count» + 1) e)
+          (submitted-in-range (e .«retransmit_count» + 1) e (omega (arith, ltb-true (e .«retransmit_count») 3 t)) h);
       state = marked-full Marks.reset (e .receipt) ps n;
     })
-    (λ f. record { stays = none-used entryInRange 1; state = marked-full Marks.lost (e .receipt) ps n }))
-    (record { stays = one-stays entryInRange e h; state = n })
+    (λ f. record { stays = none-used messageInRange 1; state = marked-full Marks.lost (e .receipt) ps n }))
+    (record { stays = one-stays messageInRange e h; state = n })
 
 retransmission-visited :
     (time : TdmaTime) (t251 : ℕ)
     → valid time ≡ true
     → (ps : List ReceiptPlace) (e : Entry)
     → Full ps
-    → entryInRange e ≡ true
-    → Visited entryInRange Full 1 (retransmission time t251 ps e)
+    → messageInRange e ≡ true
+    → Visited messageInRange Full 1 (retransmission time t251 ps e)
 unfolding retransmission
 retransmission-visited time t251 v ps e n h = aged-visited time t251 ps (timed time ps e) n (timed-in-range time ps e v h)
 
@@ -134,36 +112,36 @@ retransmission-visited time t251 v ps e n h = aged-visited time t251 ps (timed t
 abbrev FullIn : Sending → Type 0
 FullIn s = Full (s .receipts)
 
-first-visited : (s : Sending) (e : Entry) → FullIn s → entryInRange e ≡ true → Visited entryInRange FullIn 1 (firstSending s e)
+first-visited : (s : Sending) (e : Entry) → FullIn s → messageInRange e ≡ true → Visited messageInRange FullIn 1 (firstSending s e)
 unfolding firstSending
 first-visited s e n h =
-    either (Visited entryInRange FullIn 1) (e .«submitted_to_umac»)
-    (record { stays = one-stays entryInRange e h; state = n })
-    (either (Visited entryInRange FullIn 1) (among (e .ssi) (s .blocked))
-    (record { stays = one-stays entryInRange e h; state = n })
+    either (Visited messageInRange FullIn 1) (e .«submitted_to_umac»)
+    (record { stays = one-stays messageInRange e h; state = n })
+    (either (Visited messageInRange FullIn 1) (among (e .ssi) (s .blocked))
+    (record { stays = one-stays messageInRange e h; state = n })
     (record {
       stays =
-          one-stays entryInRange (submitted (e .«retransmit_count») e)
-          (submitted-in-range (e .«retransmit_count») e (entry-tells e h .count) h);
+          one-stays messageInRange (submitted (e .«retransmit_count») e)
+          (submitted-in-range (e .«retransmit_count») e (message-tells e h .count) h);
       state = marked-full Marks.reset (e .receipt) (s .receipts) n;
     }))
 
 -- Both passes, and the state after them.
-module _ (s : State) (store : List ℕ) (ok : Sane s store) where
-  retransmissions-visited : Visited entryInRange Full (length (messagesOf s)) (retransmissions s)
+module _ (s : State) (store : List ℕ) (ok : Sane s store) (started : s .started ≡ true) where
+  retransmissions-visited : Visited messageInRange Full (length (messagesOf s)) (retransmissions s)
   unfolding retransmissions
   retransmissions-visited =
-      visited-walk entryInRange Full (retransmission (s .dltime) (s .t251))
-      (retransmission-visited (s .dltime) (s .t251) (range-tells s (ok .range) .head .time))
+      visited-walk messageInRange Full (retransmission (s .dltime) (s .t251))
+      (retransmission-visited (s .dltime) (s .t251) (range-tells s (ok .range) .head .time started))
       (s .receipts)
       (messagesOf s)
       (places-full s store ok)
       (messages-used s store ok .each)
 
-  first-sendings-visited : Visited entryInRange FullIn (length (retransmissions s .stays)) (firstSendings s)
+  first-sendings-visited : Visited messageInRange FullIn (length (retransmissions s .stays)) (firstSendings s)
   unfolding firstSendings
   first-sendings-visited =
-      visited-walk entryInRange FullIn firstSending first-visited
+      visited-walk messageInRange FullIn firstSending first-visited
       (record { receipts = retransmissions s .state; blocked = [] })
       (retransmissions s .stays)
       (retransmissions-visited .state)

@@ -1,9 +1,11 @@
 -- What a state and a store hold after a call, as a link, and what of question 1 that needs.
-use Prim.Native.Nat.{ℕ, _*_, _≤_, _<_}
+use Prim.Native.Nat.{ℕ, _+_, _*_, _≤_, _<_}
 use mathlib.Core.Path.{_≡_}
 use mathlib.Core.List.{List}
 use lib.ListN.{length}
 use Rattle.questions.specs.Outcome.{Outcome, accepted, refused}
+use Rattle.llc_pdus.specs.Headers.{adata, lengthOf}
+use Rattle.llc_pdus.specs.Writes.{longest}
 use Rattle.llc_rule.specs.Done.{Done, done}
 use Rattle.llc_rule.specs.Link.{Link}
 use Rattle.llc_rule.specs.Sound.{All}
@@ -26,7 +28,7 @@ pub record Counted (s : State) : Type 0 where
 
 -- A frame lies in one of the 96 places, with at most so many bits as a place has room for.
 abbrev pub Stored : Entry → Type 0
-Stored e = (e .place < 96) × (e .len ≤ 2601)
+Stored e = (e .place < 96) × (e .len ≤ lengthOf adata + longest)
 
 -- A state and the bits of a store of which question 1 was passed, as far as a call needs it.
 pub record Ready (s : State) (store : List ℕ) : Type 0 where

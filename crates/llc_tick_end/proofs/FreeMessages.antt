@@ -12,7 +12,7 @@ use Rattle.llc_rule.specs.Records.{allBytes, sentBytes}
 use Rattle.llc_rule.proofs.Lists.{if-true, if-false}
 use Rattle.llc_records.specs.Wrote.{Wrote}
 use Rattle.llc_records.proofs.Wrote.{_⨾_, as-long, same-bytes, wrote-none}
-use Rattle.llc_state.specs.Ranges.{entryInRange}
+use Rattle.llc_state.specs.Ranges.{messageInRange}
 use Rattle.llc_state.specs.Receipts.{withPlaces, markedPlace, placeOf, mark}
 use Rattle.llc_state.specs.States.{noEntry}
 use Rattle.llc_state.specs.View.{sentIn}
@@ -25,7 +25,7 @@ use Rattle.llc_steps.specs.TickEnd.{submitted, stay, Sending, firstSending}
 use Rattle.llc_steps.proofs.Updates.{putMessages}
 use Rattle.llc_tick_end.specs.Passes.{sentBytesOf, sendings, afterSendings}
 use Rattle.llc_tick_end.proofs.Blocked.{Filled, none-yet, as-before, one-more}
-use Rattle.llc_tick_end.proofs.Entries.{EntryTells, entry-tells, used-at}
+use Rattle.llc_tick_end.proofs.Entries.{Measures, message-measures, used-at}
 use Rattle.llc_tick_end.proofs.InPlace.{next-is, next-left, next-set, laid-over}
 use Rattle.llc_tick_end.proofs.Clearing.{withArrays}
 use Rattle.llc_tick_end.proofs.SentBytes.{sent-append, sent-more}
@@ -129,11 +129,11 @@ module _ {s : State} {store l : List ℕ} {at₀ : ℕ} {out : List ℕ} {next :
         one
         (walks-on (h .walking) d (omega (arith, here, all-count)))
 
-    pub in-range : all entryInRange (messagesOf s) ≡ true → EntryTells e
+    pub in-range : all messageInRange (messagesOf s) ≡ true → Measures e
     in-range r =
-        entry-tells e
-        (ap entryInRange as-it-was
-        ∙ used-at entryInRange (s .«n_messages») (s .«outbound_messages») i d r here (omega (arith, same-count, h .few, h .array)))
+        message-measures e
+        (ap messageInRange as-it-was
+        ∙ used-at messageInRange (s .«n_messages») (s .«outbound_messages») i d r here (omega (arith, same-count, h .few, h .array)))
 
     -- The test of the blocked SSIs.
     asked : {b c : Bool} → b ≡ among (e .ssi) (drop k ssis) → b ≡ c → among (e .ssi) (h .visits .state .blocked) ≡ c

@@ -17,31 +17,32 @@ use Rattle.llc_rule.specs.Records.{sentBytes}
 use Rattle.llc_rule.proofs.Lists.{either, if-true, if-false}
 use Rattle.llc_records.specs.Wrote.{Wrote}
 use Rattle.llc_records.proofs.Wrote.{_⨾_, same-bytes, wrote-none, as-long}
-use Rattle.llc_state.specs.Ranges.{entryInRange, inRange}
+use Rattle.llc_state.specs.Ranges.{inRange, ifThere, messageInRange}
 use Rattle.llc_state.specs.Receipts.{withPlaces, markedPlace, placeOf, mark}
 use Rattle.llc_state.specs.View.{sentIn}
 use Rattle.llc_state.specs.declared.Entry.{Entry}
 use Rattle.llc_state.specs.declared.ReceiptPlace.{ReceiptPlace}
 use Rattle.llc_state.specs.declared.State.{State}
-use Rattle.llc_state.proofs.InRange.{range-tells}
+use Rattle.llc_state.proofs.InRange.{there-holds, message-tells, range-tells}
 use Rattle.llc_state.proofs.Lengths.{Lengths}
 use Rattle.llc_steps.specs.States.{messagesOf, withMessages}
 use Rattle.llc_steps.specs.TickEnd.{submitted, doneAt, stay, resend, leave, aged, retransmission, retransmissions}
+use Rattle.llc_steps.proofs.SaneTickEnd.{done-in-range}
 use Rattle.llc_tick_end.specs.Passes.{sentBytesOf, afterRetransmissions}
 use Rattle.llc_tick_end.specs.Retransmissions.{newlyDone, timedBy, isDue}
 use Rattle.llc_tick_end.proofs.Clearing.{withArrays, withCount, Clearing, clears, cleared}
 use Rattle.llc_tick_end.proofs.Compacting.{Compacting, compacts, as-was, goes, keeps}
-use Rattle.llc_tick_end.proofs.Entries.{all-at, EntryTells, entry-tells}
+use Rattle.llc_tick_end.proofs.Entries.{all-at, Measures, message-measures}
 use Rattle.llc_tick_end.proofs.SentBytes.{sent-none, sent-more, sent-room}
 use Rattle.llc_tick_end.proofs.Walking.{Walking, walks, walks-on, walked, put-out}
 
 -- A message with its done time is in range, and has the same receipt.
-timed-tells : (time : TdmaTime) (p : ReceiptPlace) (x : Entry) → valid time ≡ true → EntryTells x → EntryTells (timedBy time p x)
-timed-tells time p x v t =
-    either EntryTells (newlyDone p x)
-    {x = doneAt time x}
-    (record { receipt = t .receipt; block = t .block; place = t .place; len = t .len; done = v })
-    t
+timed-fits :
+    (time : TdmaTime) (p : ReceiptPlace) (x : Entry)
+    → valid time ≡ true
+    → messageInRange x ≡ true
+    → messageInRange (timedBy time p x) ≡ true
+timed-fits time p x v h = either (λ (e : Entry). messageInRange e ≡ true) (newlyDone p x) {x = doneAt time x} (done-in-range time x v h) h
 
 timed-receipt : (time : TdmaTime) (p : ReceiptPlace) (x : Entry) → timedBy time p x .receipt ≡ x .receipt
 timed-receipt time p x = either (λ (e : Entry). e .receipt ≡ x .receipt) (newlyDone p x) {x = doneAt time x} refl refl
@@ -68,6 +69,7 @@ pub record Passing (s : State) (store out₀ : List ℕ) (next : State) (i j : �
   pub same : next ≡ withArrays s (next .«outbound_messages») (visit .state)
   pub wrote : Wrote out₀ 0 (sentBytesOf (bits store) (visit .out)) out at
   pub range : inRange s ≡ true
+  pub time : valid (s .dltime) ≡ true
   pub count : s .«n_messages» ≤ 64
   pub long : length (s .«outbound_messages») ≡ 64
   pub places : length (next .receipts) ≡ 128
@@ -76,8 +78,8 @@ pub record Passing (s : State) (store out₀ : List ℕ) (next : State) (i j : �
 abbrev held : State → ℕ → Entry → Entry
 held next i d = getD (next .«outbound_messages») i d
 
-pub passes : (s : State) (store out : List ℕ) → inRange s ≡ true → Lengths s → Passing s store out s 0 0 out 0
-passes s store out r l =
+pub passes : (s : State) (store out : List ℕ) → inRange s ≡ true → s .started ≡ true → Lengths s → Passing s store out s 0 0 out 0
+passes s store out r on l =
     record {
       visit = record { state = s .receipts; stays = []; out = [] };
       walking = walks (retransmission (s .dltime) (s .t251)) (s .receipts) (messagesOf s);
@@ -85,6 +87,7 @@ passes s store out r l =
       same = refl;
       wrote = same-bytes (sym (sent-none (bits store))) (wrote-none out 0);
       range = r;
+      time = range-tells s r .head .time on;
       count = range-tells s r .head .messages;
       long = l .messages;
       places = l .places;
@@ -110,19 +113,27 @@ module _ {s : State} {store out₀ : List ℕ} {next : State} {i j : ℕ} {out :
     element = getD-take (s .«n_messages») (s .«outbound_messages») i d less ∙ sym (as-was (h .compacting) d)
 
     -- The message of a visit is in range.
-    pub held-tells : EntryTells (held next i d)
-    held-tells =
-        let all = all-at entryInRange (messagesOf s) i d (range-tells s (h .range) .messages) (omega (arith, less, length-messages)) in
-        entry-tells (held next i d) (ap entryInRange (sym element) ∙ all)
+    held-fits : messageInRange (held next i d) ≡ true
+    held-fits =
+        let all = all-at messageInRange (messagesOf s) i d (range-tells s (h .range) .messages) (omega (arith, less, length-messages)) in
+        ap messageInRange (sym element) ∙ all
+
+    pub held-measures : Measures (held next i d)
+    held-measures = message-measures (held next i d) held-fits
 
     -- A visit, after which the message is e.
     module _ {e : Entry}
         (is-timed : e ≡ timedBy (s .dltime) (placeOf (next .receipts) (held next i d .receipt)) (held next i d)) where
-      pub visited-tells : EntryTells e
-      visited-tells =
+      visited-fits : messageInRange e ≡ true
+      visited-fits =
           let x : Entry = held next i d in
-          let time = range-tells s (h .range) .head .time in
-          rw is-timed (timed-tells (s .dltime) (placeOf (next .receipts) (x .receipt)) x time held-tells)
+          ap messageInRange is-timed ∙ timed-fits (s .dltime) (placeOf (next .receipts) (x .receipt)) x (h .time) held-fits
+
+      pub visited-measures : Measures e
+      visited-measures = message-measures e visited-fits
+
+      pub visited-done : ifThere (e .«has_umac_done») (valid (e .«t_umac_done»)) ≡ true
+      visited-done = there-holds (message-tells e visited-fits .done)
 
       same-receipt : e .receipt ≡ held next i d .receipt
       same-receipt =
@@ -156,6 +167,7 @@ module _ {s : State} {store out₀ : List ℕ} {next : State} {i j : ℕ} {out :
             same = ap (λ (t : State). withArrays t (set (next .«outbound_messages») j e) (next .receipts)) (h .same);
             wrote = same-bytes (ap (sentBytesOf (bits store)) (sym (append-nil (h .visit .out)))) (h .wrote);
             range = h .range;
+            time = h .time;
             count = h .count;
             long = h .long;
             places = h .places;
@@ -202,6 +214,7 @@ module _ {s : State} {store out₀ : List ℕ} {next : State} {i j : ℕ} {out :
                   (ap (set (next .receipts) r) is-marked ∙ ap (λ (k : ℕ). mark reset k (next .receipts)) (sym same-receipt));
               wrote = same-bytes (sym (sent-more (bits store) (h .visit .out) e)) (h .wrote ⨾ w);
               range = h .range;
+              time = h .time;
               count = h .count;
               long = h .long;
               places = length-set (next .receipts) r p ∙ h .places;
@@ -231,6 +244,7 @@ module _ {s : State} {store out₀ : List ℕ} {next : State} {i j : ℕ} {out :
                   (ap (set (next .receipts) r) is-marked ∙ ap (λ (k : ℕ). mark lost k (next .receipts)) (sym same-receipt));
               wrote = same-bytes (ap (sentBytesOf (bits store)) (sym (append-nil (h .visit .out)))) (h .wrote);
               range = h .range;
+              time = h .time;
               count = h .count;
               long = h .long;
               places = length-set (next .receipts) r p ∙ h .places;

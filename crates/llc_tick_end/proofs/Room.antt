@@ -12,7 +12,7 @@ use Rattle.llc_rule.specs.Sizes.{SmallSent, Small}
 use Rattle.llc_rule.specs.Sound.{All, Within}
 use Rattle.llc_rule.proofs.Lists.{both}
 use Rattle.llc_rule.proofs.Room.{tick-end-room}
-use Rattle.llc_state.specs.Ranges.{entryInRange, inRange}
+use Rattle.llc_state.specs.Ranges.{messageInRange, udataInRange, inRange}
 use Rattle.llc_state.specs.View.{placeBit, frameIn, sentIn, messageIn, dueIn, placeIn, rowIn, linkIn}
 use Rattle.llc_state.specs.declared.Entry.{Entry}
 use Rattle.llc_state.specs.declared.State.{State}
@@ -20,7 +20,7 @@ use Rattle.llc_state.proofs.InRange.{range-tells}
 use Rattle.llc_state.proofs.Lengths.{Lengths}
 use Rattle.llc_steps.specs.TickEnd.{tickRecords}
 use Rattle.llc_steps.proofs.TickEnd.{records-in}
-use Rattle.llc_tick_end.proofs.Entries.{entry-tells}
+use Rattle.llc_tick_end.proofs.Entries.{Measures, message-measures, udata-measures}
 
 -- The first n of an array are at most n, and so is what they are made into.
 few : {A : Type 0} (n : ℕ) (l : List A) → length (take n l) ≤ n
@@ -52,10 +52,9 @@ unfolding all
 all-made p P g f [] h = tt
 all-made p P g f (x ∷ l) h = let t = both {x = p x} {y = all p l} h in (f x (t .0), all-made p P g f l (t .1))
 
-small-entry : (store : List ℕ) (e : Entry) → entryInRange e ≡ true → SmallSent (sentIn store e)
+small-entry : (store : List ℕ) (e : Entry) → Measures e → SmallSent (sentIn store e)
 unfolding sentIn frameIn
-small-entry store e h =
-    let t = entry-tells e h in
+small-entry store e t =
     record {
       block = omega (arith, t .block, few (e .«block_len») (e .block));
       pdu = omega (arith, t .len, few (e .len) (drop (placeBit (e .place)) store));
@@ -67,10 +66,10 @@ small-in s store h =
     let r = range-tells s h in
     record {
       acknowledged =
-          all-made entryInRange (λ (m : Message). SmallSent (m .sent)) (messageIn store) (small-entry store)
+          all-made messageInRange (λ (m : Message). SmallSent (m .sent)) (messageIn store) (λ e t. small-entry store e (message-measures e t))
           (take (s .«n_messages») (s .«outbound_messages»)) (r .messages);
       unacknowledged =
-          all-made entryInRange SmallSent (sentIn store) (small-entry store)
+          all-made udataInRange SmallSent (sentIn store) (λ e t. small-entry store e (udata-measures e t))
           (take (s .«n_udata») (s .«outbound_udata_messages»)) (r .udata);
     }
 

@@ -2,25 +2,24 @@
 use Prim.Native.Nat.{ℕ, _+_, _≤_}
 use native.Mathlib.Omega.{arith}
 use mathlib.Core.Path.{_≡_, refl}
-use mathlib.Core.Bool.{Bool, true, not, _&&_}
+use mathlib.Core.Bool.{Bool, true, _&&_}
 use mathlib.Core.List.{List, [], _∷_, _++_}
-use borrow.Author.Tests.{ltb-true, le-leb}
-use lib.Dec.{leb, ltb}
+use borrow.Author.Tests.{ltb-true}
+use lib.Dec.{ltb}
 use lib.ListN.{length, length-append}
 use Rattle.tdma_time.specs.Slots.{valid}
 use Rattle.tdma_time.specs.declared.TdmaTime.{TdmaTime}
 use Rattle.llc_rule.specs.Lists.{all, among, Visit, walk}
-use Rattle.llc_rule.specs.Messages.{overdue, reported}
+use Rattle.llc_rule.specs.Messages.{overdue}
 use Rattle.llc_rule.proofs.Lists.{both, and-true, by-choice, either}
-use Rattle.llc_state.specs.Ranges.{entryInRange, inRange}
-use Rattle.llc_state.specs.Receipts.{receiptOf, placeOf}
+use Rattle.llc_state.specs.Ranges.{messageInRange, inRange}
 use Rattle.llc_state.specs.declared.Entry.{Entry}
 use Rattle.llc_state.specs.declared.ReceiptPlace.{ReceiptPlace}
 use Rattle.llc_state.specs.declared.State.{State}
 use Rattle.llc_state.proofs.InRange.{range-tells}
 use Rattle.llc_steps.specs.States.{messagesOf}
-use Rattle.llc_steps.specs.TickEnd.{submitted, doneAt, timed, retransmission, Sending, firstSending, retransmissions, firstSendings}
-use Rattle.llc_tick_end.proofs.Entries.{lasting}
+use Rattle.llc_steps.specs.TickEnd.{timed, retransmission, Sending, firstSending, retransmissions, firstSendings}
+use Rattle.llc_steps.proofs.SaneTickEnd.{submitted-in-range, timed-in-range}
 
 -- A walk ------------------------------------------------------------------------------------------------------------------
 
@@ -60,7 +59,7 @@ abbrev AtMostOne : {S : Type 0} → Visit S Entry Entry → Type 0
 AtMostOne v = length (v .stays) ≤ 1
 
 abbrev InRange : {S : Type 0} → Visit S Entry Entry → Type 0
-InRange v = all entryInRange (v .stays) ≡ true
+InRange v = all messageInRange (v .stays) ≡ true
 
 one-passes : {A : Type 0} (p : A → Bool) (x : A) → p x ≡ true → all p (x ∷ []) ≡ true
 unfolding all
@@ -69,17 +68,6 @@ one-passes p x h = and-true h refl
 none-passes : {A : Type 0} (p : A → Bool) → all p [] ≡ true
 unfolding all
 none-passes p = refl
-
-done-in-range : (t : TdmaTime) (e : Entry) → valid t ≡ true → entryInRange e ≡ true → entryInRange (doneAt t e) ≡ true
-unfolding entryInRange
-done-in-range t e v h = and-true (both {x = lasting e && leb (e .«retransmit_count») 3} {y = valid (e .«t_umac_done»)} h .0) v
-
-submitted-in-range : (k : ℕ) (e : Entry) → k ≤ 3 → entryInRange e ≡ true → entryInRange (submitted k e) ≡ true
-unfolding entryInRange
-submitted-in-range k e few h =
-    let a = both {x = lasting e && leb (e .«retransmit_count») 3} {y = valid (e .«t_umac_done»)} h in
-    let b = both {x = lasting e} {y = leb (e .«retransmit_count») 3} (a .0) in
-    and-true (and-true (b .0) (le-leb k 3 few)) (a .1)
 
 module _ (time : TdmaTime) (t251 : ℕ) where
   few-again : (ps : List ReceiptPlace) (e : Entry) → AtMostOne (retransmission time t251 ps e)
@@ -90,33 +78,26 @@ module _ (time : TdmaTime) (t251 : ℕ) where
       (either AtMostOne (ltb (d .«retransmit_count») 3) (omega arith) (omega arith))
       (omega arith)
 
-  timed-in-range : (ps : List ReceiptPlace) (e : Entry) → valid time ≡ true → entryInRange e ≡ true → entryInRange (timed time ps e) ≡ true
-  timed-in-range ps e v h =
-      either (λ (x : Entry). entryInRange x ≡ true)
-      (not (e .«has_umac_done») && (placeOf ps (e .receipt) .taken && reported (receiptOf (placeOf ps (e .receipt)))))
-      (done-in-range time e v h)
-      h
-
-  again-in-range : valid time ≡ true → (ps : List ReceiptPlace) (e : Entry) → entryInRange e ≡ true → InRange (retransmission time t251 ps e)
+  again-in-range : valid time ≡ true → (ps : List ReceiptPlace) (e : Entry) → messageInRange e ≡ true → InRange (retransmission time t251 ps e)
   unfolding retransmission
   again-in-range v ps e h =
       let d = timed time ps e in
-      let k = timed-in-range ps e v h in
+      let k = timed-in-range time ps e v h in
       either InRange (d .«has_umac_done» && overdue time t251 (d .«t_umac_done»))
       (by-choice InRange (ltb (d .«retransmit_count») 3)
-      (λ t. one-passes entryInRange _ (submitted-in-range (d .«retransmit_count» + 1) d (omega (arith, ltb-true (d .«retransmit_count») 3 t)) k))
-      (λ t. none-passes entryInRange))
-      (one-passes entryInRange d k)
+      (λ t. one-passes messageInRange _ (submitted-in-range (d .«retransmit_count» + 1) d (omega (arith, ltb-true (d .«retransmit_count») 3 t)) k))
+      (λ t. none-passes messageInRange))
+      (one-passes messageInRange d k)
 
 pub stays-few : (s : State) → length (retransmissions s .stays) ≤ length (messagesOf s)
 unfolding retransmissions
 stays-few s = few-stay (retransmission (s .dltime) (s .t251)) (few-again (s .dltime) (s .t251)) (s .receipts) (messagesOf s)
 
-pub stays-in-range : (s : State) → inRange s ≡ true → all entryInRange (retransmissions s .stays) ≡ true
+pub stays-in-range : (s : State) → inRange s ≡ true → s .started ≡ true → all messageInRange (retransmissions s .stays) ≡ true
 unfolding retransmissions
-stays-in-range s h =
+stays-in-range s h on =
     let r = range-tells s h in
-    passing-stay (retransmission (s .dltime) (s .t251)) entryInRange (again-in-range (s .dltime) (s .t251) (r .head .time)) (s .receipts) (messagesOf s) (r .messages)
+    passing-stay (retransmission (s .dltime) (s .t251)) messageInRange (again-in-range (s .dltime) (s .t251) (r .head .time on)) (s .receipts) (messagesOf s) (r .messages)
 
 -- The second pass ---------------------------------------------------------------------------------------------------------
 

@@ -13,7 +13,7 @@ use Rattle.llc_rule.specs.Records.{allBytes}
 use Rattle.llc_rule.proofs.Room.{allBytes-append}
 use Rattle.llc_records.specs.Wrote.{Wrote}
 use Rattle.llc_records.proofs.Wrote.{_⨾_, as-long, same-bytes, write-is}
-use Rattle.llc_state.specs.Ranges.{entryInRange, inRange}
+use Rattle.llc_state.specs.Ranges.{messageInRange, udataInRange, inRange}
 use Rattle.llc_state.specs.States.{noEntry, noAck, noRow}
 use Rattle.llc_state.specs.declared.Entry.{Entry}
 use Rattle.llc_state.specs.declared.State.{State}
@@ -86,7 +86,7 @@ tick-bytes s store = simp allBytes-append
 -- What each pass behind the first needs of the state and the output that it finds.
 pub record Second (store : List ℕ) (s : State) (out : List ℕ) (at : ℕ) : Type 0 where
   pub few : s .«n_messages» ≤ 64
-  pub entries : all entryInRange (messagesOf s) ≡ true
+  pub entries : all messageInRange (messagesOf s) ≡ true
   pub room : at + length (sentBytesOf store (sendings s .out)) ≤ length out
 
 pub record Third (s : State) (out : List ℕ) (at : ℕ) : Type 0 where
@@ -95,10 +95,10 @@ pub record Third (s : State) (out : List ℕ) (at : ℕ) : Type 0 where
 
 pub record Fourth (store : List ℕ) (s : State) (out : List ℕ) (at : ℕ) : Type 0 where
   pub udata : s .«n_udata» ≤ 32
-  pub entries : all entryInRange (udataOf s) ≡ true
+  pub entries : all udataInRange (udataOf s) ≡ true
   pub room : at + length (udataBytesOf store (udataOf s)) ≤ length out
 
-module _ (s : State) (store out : List ℕ) (long : Lengths s) (range : inRange s ≡ true) (room : 46656 ≤ length out) where
+module _ (s : State) (store out : List ℕ) (long : Lengths s) (range : inRange s ≡ true) (room : 46656 ≤ length out) (on : s .started ≡ true) where
   -- Room for all of them.
   sizes :
       length (sentBytesOf store (retransmissions s .out))
@@ -127,9 +127,9 @@ module _ (s : State) (store out : List ℕ) (long : Lengths s) (range : inRange 
           few =
               omega (arith, count, stays-few s, length-take (s .«n_messages») (s .«outbound_messages»), range-tells s range .head .messages);
           entries =
-              ap (λ (x : State). all entryInRange (messagesOf x)) e₁
-              ∙ ap (all entryInRange) (messages-left s)
-              ∙ stays-in-range s range;
+              ap (λ (x : State). all messageInRange (messagesOf x)) e₁
+              ∙ ap (all messageInRange) (messages-left s)
+              ∙ stays-in-range s range on;
           room = omega (arith, sizes, w₁ .next, as-long w₁, ap length sent-bytes);
         }
 
@@ -169,7 +169,7 @@ module _ (s : State) (store out : List ℕ) (long : Lengths s) (range : inRange 
             let count : s₃ .«n_udata» ≡ s .«n_udata» = ap (λ (x : State). x .«n_udata») three-are in
             record {
               udata = omega (arith, count, r .head .udata);
-              entries = ap (λ (x : State). all entryInRange (udataOf x)) three-are ∙ r .udata;
+              entries = ap (λ (x : State). all udataInRange (udataOf x)) three-are ∙ r .udata;
               room =
                   omega (arith, sizes, w₁ .next, w₂ .next, w₃ .next, as-long w₁, as-long w₂, as-long w₃, ap length sent-bytes, ap length acks-are, ap length udata-are);
             }

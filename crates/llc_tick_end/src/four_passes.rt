@@ -20,6 +20,7 @@ pub fn tick_end(state: State, store: &[u8], out: &mut [u8]) -> Answer
     requires { ⌜ inRange state ≡ true ⌝ }
     requires { ⌜ length (now store) ≡ 32256 ⌝ }
     requires { ⌜ 46656 ≤ length (now out) ⌝ }
+    requires { ⌜ state .started ≡ true ⌝ }
     ensures { λ r. ⌜ effect r (bits (now (store .entry))) (now (out .exit)) ≡ delivered state (bits (now (store .entry))) (now (out .entry)) (acts tickEnd state (bits (now (store .entry)))) ⌝ }
 {
     let resent = submit_retransmissions_to_umac(state, store, out);

@@ -6,7 +6,7 @@ ghost use lib.ListN.{length, drop};
 ghost use Rattle.bits.specs.Bits.{bits};
 ghost use Rattle.llc_rule.specs.Lists.{all, among};
 ghost use Rattle.llc_records.specs.Wrote.{Wrote};
-ghost use Rattle.llc_state.specs.Ranges.{entryInRange};
+ghost use Rattle.llc_state.specs.Ranges.{messageInRange};
 ghost use Rattle.llc_steps.specs.States.{messagesOf};
 ghost use Rattle.llc_tick_end.specs.Passes.{sentBytesOf, sendings, afterSendings};
 use crate::Passed;
@@ -21,7 +21,7 @@ pub(crate) fn submit_free_messages_to_umac(
     at: usize,
 ) -> Passed
     requires { ⌜ state .«n_messages» ≤ 64 ⌝ }
-    requires { ⌜ all entryInRange (messagesOf state) ≡ true ⌝ }
+    requires { ⌜ all messageInRange (messagesOf state) ≡ true ⌝ }
     requires { ⌜ length (now store) ≡ 32256 ⌝ }
     requires { ⌜ at + length (sentBytesOf (bits (now store)) (sendings state .out)) ≤ length (now out) ⌝ }
     ensures { λ r. ⌜ r .state ≡ afterSendings state ⌝ }

@@ -3,6 +3,8 @@ ghost use Prim.Native.Nat.{_+_, _≤_, _<_};
 ghost use mathlib.Core.Path.{_≡_};
 ghost use lib.ListN.{length};
 ghost use Rattle.bits.specs.Bits.{bits};
+ghost use Rattle.llc_pdus.specs.Headers.{adata, lengthOf};
+ghost use Rattle.llc_pdus.specs.Writes.{longest};
 ghost use Rattle.llc_rule.specs.Records.{sentBytes};
 ghost use Rattle.llc_records.specs.Wrote.{Wrote};
 ghost use Rattle.llc_state.specs.View.{sentIn};
@@ -18,7 +20,7 @@ pub(crate) fn put_message(out: &mut [u8], at: usize, kind: u8, e: Entry, store: 
     requires { ⌜ length (now store) ≡ 32256 ⌝ }
     requires { ⌜ e .«block_len» ≤ 64 ⌝ }
     requires { ⌜ e .place < 96 ⌝ }
-    requires { ⌜ e .len ≤ 2601 ⌝ }
+    requires { ⌜ e .len ≤ lengthOf adata + longest ⌝ }
     requires { ⌜ at + length (sentBytes kind (sentIn (bits (now store)) e)) ≤ length (now out) ⌝ }
     ensures { λ r. ⌜ Wrote (now (out .entry)) at (sentBytes kind (sentIn (bits (now (store .entry))) e)) (now (out .exit)) r ⌝ }
 {

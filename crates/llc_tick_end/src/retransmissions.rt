@@ -7,7 +7,7 @@ ghost use Rattle.bits.specs.Bits.{bits};
 ghost use Rattle.tdma_time.specs.Slots.{valid};
 ghost use Rattle.llc_rule.specs.Messages.{overdue as isOverdue, reported};
 ghost use Rattle.llc_records.specs.Wrote.{Wrote};
-ghost use Rattle.llc_state.specs.Ranges.{inRange};
+ghost use Rattle.llc_state.specs.Ranges.{ifThere, inRange};
 ghost use Rattle.llc_state.specs.Receipts.{receiptOf};
 ghost use Rattle.llc_steps.specs.TickEnd.{retransmissions, submitted as submittedEntry};
 ghost use Rattle.llc_tick_end.specs.Passes.{sentBytesOf, afterRetransmissions};
@@ -59,7 +59,7 @@ fn timed(e: Entry, place: ReceiptPlace, dltime: TdmaTime) -> Entry
 // Is it time to hand the message down again, or to give it up?
 fn is_due(e: Entry, dltime: TdmaTime, t251: u16) -> bool
     requires { ⌜ valid dltime ≡ true ⌝ }
-    requires { ⌜ valid (e .«t_umac_done») ≡ true ⌝ }
+    requires { ⌜ ifThere (e .«has_umac_done») (valid (e .«t_umac_done»)) ≡ true ⌝ }
     ensures { λ r. ⌜ r ≡ isDue dltime t251 e ⌝ }
 {
     let t_umac_done = e.t_umac_done;
@@ -89,6 +89,7 @@ pub(crate) fn submit_retransmissions_to_umac(
     requires { ⌜ inRange state ≡ true ⌝ }
     requires { ⌜ length (now store) ≡ 32256 ⌝ }
     requires { ⌜ length (sentBytesOf (bits (now store)) (retransmissions state .out)) ≤ length (now out) ⌝ }
+    requires { ⌜ state .started ≡ true ⌝ }
     ensures { λ r. ⌜ r .state ≡ afterRetransmissions state ⌝ }
     ensures { λ r. ⌜ Wrote (now (out .entry)) 0 (sentBytesOf (bits (now (store .entry))) (retransmissions state .out)) (now (out .exit)) (r .at) ⌝ }
 {

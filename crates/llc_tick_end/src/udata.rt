@@ -7,7 +7,7 @@ ghost use lib.ListN.{length};
 ghost use Rattle.bits.specs.Bits.{bits};
 ghost use Rattle.llc_rule.specs.Lists.{all};
 ghost use Rattle.llc_records.specs.Wrote.{Wrote};
-ghost use Rattle.llc_state.specs.Ranges.{entryInRange};
+ghost use Rattle.llc_state.specs.Ranges.{udataInRange};
 ghost use Rattle.llc_steps.specs.States.{udataOf, withUdata};
 ghost use Rattle.llc_tick_end.specs.Passes.{udataBytesOf};
 use crate::Passed;
@@ -23,7 +23,7 @@ pub(crate) fn submit_udata_msgs_to_umac(
     at: usize,
 ) -> Passed
     requires { ⌜ state .«n_udata» ≤ 32 ⌝ }
-    requires { ⌜ all entryInRange (udataOf state) ≡ true ⌝ }
+    requires { ⌜ all udataInRange (udataOf state) ≡ true ⌝ }
     requires { ⌜ length (now store) ≡ 32256 ⌝ }
     requires { ⌜ at + length (udataBytesOf (bits (now store)) (udataOf state)) ≤ length (now out) ⌝ }
     ensures { λ r. ⌜ r .state ≡ withUdata state [] ⌝ }

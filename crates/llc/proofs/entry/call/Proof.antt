@@ -6,7 +6,7 @@ use Rattle.llc_steps.specs.declared.Answer.{Answer}
 use Rattle.llc_calls.specs.Ranges.{inRangeOf}
 use Rattle.llc_steps.specs.Answers.{effect, answer}
 use Rattle.llc_steps.specs.Steps.{acts}
-use Rattle.llc.proofs.Ways.{lent-wrong, out-of-range, turned-down, passed, quietly, by-call, ranged, insideOf, report-ranged, release-ranged}
+use Rattle.llc.proofs.Ways.{lent-wrong, out-of-range, turned-down, passed, quietly, by-call, ranged, started, insideOf, report-ranged, release-ranged}
 use borrow.Author.Needs.{needs}
 use Rattle.llc.proofs.entry.call.Statement.{statement}
 use Rattle.llc.proofs.entry.call.Tie as tie
@@ -102,7 +102,7 @@ tick-end-requires c κs =
     let t = c .before .before .before .before in
     let a = t .before .before .before .before .before .before .before .before .before .before .before .before .args in
     let p = passed (a .state) (a .store .now) (a .out .now) (a .bytes .now) (t .before .before .decode .result) (t .before .before .before .before .before .before .lent-right .ensures) (t .before .before .before .before .before .if1 .left) (t .before .before .before .before .in-range .ensures) (t .before .before .before .if2 .left) (t .before .before .decode .ensures .0) (t .before .before .decode .ensures .1) (t .before .question .ensures) (t .if3 .left) in
-    (p .state, (p .places, p .room))
+    (p .state, (p .places, (p .room, started (c .before .before .enum-told .given .1) (a .state .started) (p .on))))
 
 enum-known-call-3 : tie.Need-enum-known-call-3
 enum-known-call-3 c = search needs
@@ -138,7 +138,7 @@ rx-tma-unitdata-ind-requires c κs =
     let a = t .before .before .before .before .before .before .before .before .before .before .before .before .args in
     let p = passed (a .state) (a .store .now) (a .out .now) (a .bytes .now) (t .before .before .decode .result) (t .before .before .before .before .before .before .lent-right .ensures) (t .before .before .before .before .before .if1 .left) (t .before .before .before .before .in-range .ensures) (t .before .before .before .if2 .left) (t .before .before .decode .ensures .0) (t .before .before .decode .ensures .1) (t .before .question .ensures) (t .if3 .left) in
     let e = c .before .before .call5 .given .1 in
-    (p .state, (p .room, (ranged e (p .values), insideOf e (a .bytes .now) (p .inside))))
+    (p .state, (p .room, (ranged e (p .values), (insideOf e (a .bytes .now) (p .inside), started e (a .state .started) (p .on)))))
 
 enum-known-call-6 : tie.Need-enum-known-call-6
 enum-known-call-6 c = search needs

@@ -15,13 +15,13 @@ returns c =
 slot-before-requires : tie.Need-slot-before-requires
 slot-before-requires c κs =
     let d = c .before .before in
-    range-tells (d .args .state) (d .pre .0) .head .time
+    range-tells (d .args .state) (d .pre .0) .head .time (d .pre .1 .1)
 
 schedule-outgoing-ack-requires : tie.Need-schedule-outgoing-ack-requires
 schedule-outgoing-ack-requires c κs =
     let d = c .before .before .before in
     let a = d .args in
-    room (a .state) (a .f) (a .numbers) (d .pre .1) (not-false (a .numbers .«has_ns») (c .before .if1 .left))
+    room (a .state) (a .f) (a .numbers) (d .pre .1 .0) (not-false (a .numbers .«has_ns») (c .before .if1 .left))
 
 returns-2 : tie.Need-returns-2
 returns-2 c =

@@ -31,7 +31,7 @@ handed : (c : tie.After-sdu-bytes)
 handed c =
     let d = c .before .before .before .before .before .before .before .before .before in
     let a = d .args in
-    handed-back (a .state) (a .f) (a .bytes .now) (c .before .before .before .pdu .given .1) (c .before .before .before .before .before .read .ensures .1) (d .pre .1 .1 .0) (d .pre .1 .1 .1) (c .sdu-bytes .ensures)
+    handed-back (a .state) (a .f) (a .bytes .now) (c .before .before .before .pdu .given .1) (c .before .before .before .before .before .read .ensures .1) (d .pre .1 .1 .0) (d .pre .1 .1 .1 .0) (c .sdu-bytes .ensures)
 
 returns : tie.Need-returns
 returns c = absurd (c .before .if1 .taken (handed (c .before .before) .zeroth))
@@ -39,7 +39,7 @@ returns c = absurd (c .before .if1 .taken (handed (c .before .before) .zeroth))
 rx-tma-unitdata-ind-bl-requires : tie.Need-rx-tma-unitdata-ind-bl-requires
 rx-tma-unitdata-ind-bl-requires c κs =
     let d = c .before .before .before .before .before .before .before .before .before .before .before in
-    (d .pre .0, (d .pre .1 .0, (d .pre .1 .1 .0, (d .pre .1 .1 .1, handed (c .before .before) .sdu))))
+    (d .pre .0, (d .pre .1 .0, (d .pre .1 .1 .0, (d .pre .1 .1 .1 .0, (handed (c .before .before) .sdu, d .pre .1 .1 .1 .1)))))
 
 enum-known-number : tie.Need-enum-known-number
 enum-known-number c = search needs

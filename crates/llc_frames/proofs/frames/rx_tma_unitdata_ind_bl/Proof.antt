@@ -30,7 +30,7 @@ acknowledge-requires c κs =
     let d = c .before .before .before .before .before .before .before .before .before .before .before .before .before in
     let a = d .args in
     let n = c .before .before .before .before .before .before .before .before .before .seq-numbers in
-    (d .pre .0, has-room (a .state) (a .f) (a .bytes .now) (a .pdu) (a .sdu .now) (a .place) (a .len) (n .result) (n .ensures .0) (n .ensures .1) (c .before .before .before .before .before .before .if1 .left))
+    (d .pre .0, (has-room (a .state) (a .f) (a .bytes .now) (a .pdu) (a .sdu .now) (a .place) (a .len) (n .result) (n .ensures .0) (n .ensures .1) (c .before .before .before .before .before .before .if1 .left), d .pre .1 .1 .1 .1 .1))
 
 accepted-requires : tie.Need-accepted-requires
 accepted-requires c κs = search needs
@@ -49,7 +49,7 @@ returns-2 c =
     (not-true (n .result .«has_nr») (c .before .before .before .before .before .before .if2 .taken))
     (c .before .acknowledge .ensures)
     (d .pre .1 .1 .0)
-    (d .pre .1 .1 .1 .1)
+    (d .pre .1 .1 .1 .1 .0)
     (d .pre .1 .0)
     (c .accepted .ensures)
     (c .before .before .before .before .put-upward .ensures)
@@ -86,7 +86,7 @@ acknowledge-requires-2 c κs =
     let d = c .before .before .before .before .before .before .before .before .before .before .before .before .before .before .before .before in
     let a = d .args in
     let n = c .before .before .before .before .before .before .before .before .before .before .before .before .seq-numbers in
-    (d .pre .0, has-room (a .state) (a .f) (a .bytes .now) (a .pdu) (a .sdu .now) (a .place) (a .len) (n .result) (n .ensures .0) (n .ensures .1) (c .before .before .before .before .before .before .before .before .before .if1 .left))
+    (d .pre .0, (has-room (a .state) (a .f) (a .bytes .now) (a .pdu) (a .sdu .now) (a .place) (a .len) (n .result) (n .ensures .0) (n .ensures .1) (c .before .before .before .before .before .before .before .before .before .if1 .left), d .pre .1 .1 .1 .1 .1))
 
 process-incoming-ack-requires : tie.Need-process-incoming-ack-requires
 process-incoming-ack-requires c κs =
@@ -113,7 +113,7 @@ returns-4 c =
     (c .before .before .acknowledge2 .ensures)
     (c .before .process-incoming-ack .ensures)
     (d .pre .1 .1 .0)
-    (d .pre .1 .1 .1 .1)
+    (d .pre .1 .1 .1 .1 .0)
     (d .pre .1 .0)
     (c .accepted2 .ensures)
     (c .before .before .before .before .before .put-upward2 .ensures)

@@ -1,14 +1,11 @@
-use borrow.Author.Needs.{needs}
+use mathlib.Core.Path.{refl}
 use Rattle.llc_state.specs.Ranges.{entryInRange}
 use Rattle.llc_state.proofs.ranges.entry_in_range.Statement.{statement}
 use Rattle.llc_state.proofs.ranges.entry_in_range.Tie as tie
 
-is-valid-requires : tie.Need-is-valid-requires
-is-valid-requires c κs = search needs
-
 returns : tie.Need-returns
 unfolding entryInRange
-returns c = rw (c .is-valid .ensures)
+returns c = refl
 
 pub entry-in-range-spec : {M : Type 1} → statement M
-entry-in-range-spec = tie.close (tie.spec is-valid-requires returns)
+entry-in-range-spec = tie.close (tie.spec returns)

@@ -1,32 +1,32 @@
 use Prim.Native.Nat.{_-_}
-use Rattle.llc_state.specs.Ranges.{entryInRange}
+use Rattle.llc_state.specs.Ranges.{udataInRange}
 use Rattle.llc_state.proofs.AllLoops.{Asking, begins, goes-on, fails, ends}
 use borrow.Author.Needs.{needs}
 use Rattle.llc_state.proofs.ranges.udata_in_range.Statement.{statement}
 use Rattle.llc_state.proofs.ranges.udata_in_range.Tie as tie
 
 abbrev Inv-loop : tie.InvT-loop
-Inv-loop n entries i₀ i = Asking entryInRange 32 n entries i
+Inv-loop n entries i₀ i = Asking udataInRange 32 n entries i
 
 abbrev μ-loop : tie.MeasureT-loop
 μ-loop n entries i₀ i = n - i
 
 loop-holds : tie.Need-loop-holds Inv-loop μ-loop
-loop-holds c = begins entryInRange 32 _ _ (c .pre) (c .good .0 .1 .0 .1)
+loop-holds c = begins udataInRange 32 _ _ (c .pre) (c .good .0 .1 .0 .1)
 
-mul-entry-in-range : tie.Need-mul-entry-in-range Inv-loop μ-loop
-mul-entry-in-range c = search needs
+mul-udata-message-in-range : tie.Need-mul-udata-message-in-range Inv-loop μ-loop
+mul-udata-message-in-range c = search needs
 
-array-copy-out-entry-in-range : tie.Need-array-copy-out-entry-in-range Inv-loop μ-loop
-array-copy-out-entry-in-range c = search needs
+array-copy-out-udata-message-in-range : tie.Need-array-copy-out-udata-message-in-range Inv-loop μ-loop
+array-copy-out-udata-message-in-range c = search needs
 
-entry-in-range-requires : tie.Need-entry-in-range-requires Inv-loop μ-loop
-entry-in-range-requires c κs = search needs
+udata-message-in-range-requires : tie.Need-udata-message-in-range-requires Inv-loop μ-loop
+udata-message-in-range-requires c κs = search needs
 
 returns : tie.Need-returns Inv-loop μ-loop
 returns c =
     let b = c .before .before .before in
-    fails (b .before .loop .inv) _ _ (b .loop-test .taken) (c .before .entry-in-range .ensures) (c .if1 .taken)
+    fails (b .before .loop .inv) _ _ (b .loop-test .taken) (c .before .udata-message-in-range .ensures) (c .if1 .taken)
 
 add-i : tie.Need-add-i Inv-loop μ-loop
 add-i c = search needs
@@ -37,7 +37,7 @@ loop-less c = search needs
 loop-again : tie.Need-loop-again Inv-loop μ-loop
 loop-again c =
     let b = c .before .before .before in
-    goes-on (b .before .loop .inv) _ _ (b .loop-test .taken) (c .before .entry-in-range .ensures) (c .if1 .left)
+    goes-on (b .before .loop .inv) _ _ (b .loop-test .taken) (c .before .udata-message-in-range .ensures) (c .if1 .left)
 
 returns-2 : tie.Need-returns-2 Inv-loop μ-loop
 returns-2 c = ends (c .before .loop .inv) (c .loop-test .left)
@@ -49,9 +49,9 @@ udata-in-range-spec =
     Inv-loop
     μ-loop
     loop-holds
-    mul-entry-in-range
-    array-copy-out-entry-in-range
-    entry-in-range-requires
+    mul-udata-message-in-range
+    array-copy-out-udata-message-in-range
+    udata-message-in-range-requires
     returns
     add-i
     loop-less

@@ -4,10 +4,9 @@ use mathlib.Core.Path.{_∙_, sym}
 use borrow.Author.Needs.{needs}
 use borrow.Author.Tests.{not-true, not-false}
 use Rattle.llc_records.proofs.Wrote.{as-long}
-use Rattle.llc_state.proofs.InRange.{range-tells}
 use Rattle.llc_state.proofs.Lengths.{lengths}
 use Rattle.llc_tick_end.proofs.Clearing.{Clearing, clears-on}
-use Rattle.llc_tick_end.proofs.Retransmitting.{Passing, passes, clearing, held-tells, visited-tells, stays, room, sends-again, leaves, all-wrote, all-cleared}
+use Rattle.llc_tick_end.proofs.Retransmitting.{Passing, passes, clearing, held-measures, visited-measures, visited-done, stays, room, sends-again, leaves, all-wrote, all-cleared}
 use Rattle.llc_tick_end.proofs.retransmissions.submit_retransmissions_to_umac.Statement.{
   statement,
 }
@@ -28,7 +27,7 @@ abbrev μ-loop2 : tie.MeasureT-loop2
 loop-holds : tie.Need-loop-holds Inv-loop μ-loop Inv-loop2 μ-loop2
 loop-holds c =
     let e = c .before .before .before in
-    passes (e .args .t1) (e .args .store .now) (e .args .out .now) (e .pre .0) (lengths (e .args .t1) (e .good .0))
+    passes (e .args .t1) (e .args .store .now) (e .args .out .now) (e .pre .0) (e .pre .1 .1 .1) (lengths (e .args .t1) (e .good .0))
 
 mul-held : tie.Need-mul-held Inv-loop μ-loop Inv-loop2 μ-loop2
 mul-held c = search needs
@@ -45,7 +44,7 @@ mul-place c = search needs
 element-copy-out-place : tie.Need-element-copy-out-place Inv-loop μ-loop Inv-loop2 μ-loop2
 element-copy-out-place c =
     let l = c .before .before in
-    held-tells (l .before .loop .inv) (l .loop-test .taken) _ .receipt
+    held-measures (l .before .loop .inv) (l .loop-test .taken) _ .receipt
 
 timed-requires : tie.Need-timed-requires Inv-loop μ-loop Inv-loop2 μ-loop2
 timed-requires c κs = search needs
@@ -57,7 +56,7 @@ is-due-requires : tie.Need-is-due-requires Inv-loop μ-loop Inv-loop2 μ-loop2
 is-due-requires c κs =
     let l = c .before .before .before .before in
     let inv = l .before .loop .inv in
-    (range-tells _ (inv .range) .head .time, visited-tells inv (l .loop-test .taken) _ (c .timed .ensures) .done)
+    (inv .time, visited-done inv (l .loop-test .taken) _ (c .timed .ensures))
 
 mul-e : tie.Need-mul-e Inv-loop μ-loop Inv-loop2 μ-loop2
 mul-e c = search needs
@@ -84,9 +83,9 @@ put-message-requires c κs =
     let inv = l .before .loop .inv in
     let timed = b .before .before .timed .ensures in
     let due = sym (b .before .is-due .ensures) ∙ not-false _ (b .if1 .left) in
-    let tells = visited-tells inv (l .loop-test .taken) _ timed in
+    let tells = visited-measures inv (l .loop-test .taken) _ timed in
     let pre = l .before .before .before .before .before .pre in
-    (pre .1 .0, (tells .block, (tells .place, (tells .len, room inv (l .loop-test .taken) _ timed due (c .before .if2 .taken) (pre .1 .1)))))
+    (pre .1 .0, (tells .block, (tells .place, (tells .len, room inv (l .loop-test .taken) _ timed due (c .before .if2 .taken) (pre .1 .1 .0)))))
 
 reset-requires : tie.Need-reset-requires Inv-loop μ-loop Inv-loop2 μ-loop2
 reset-requires c κs = search needs
@@ -97,7 +96,7 @@ mul-t33 c = omega (arith, c .before .before .before .before .before .before .bef
 element-set-from-state : tie.Need-element-set-from-state Inv-loop μ-loop Inv-loop2 μ-loop2
 element-set-from-state c =
     let l = c .before .before .before .before .before .before .before .before .before .before .before .before .before in
-    held-tells (l .before .loop .inv) (l .loop-test .taken) _ .receipt
+    held-measures (l .before .loop .inv) (l .loop-test .taken) _ .receipt
 
 add-submitted : tie.Need-add-submitted Inv-loop μ-loop Inv-loop2 μ-loop2
 add-submitted c = search needs
@@ -149,7 +148,7 @@ mul-t41 c = omega (arith, c .before .before .before .before .before .before .bef
 element-set-from-state-3 : tie.Need-element-set-from-state-3 Inv-loop μ-loop Inv-loop2 μ-loop2
 element-set-from-state-3 c =
     let l = c .before .before .before .before .before .before .before .before .before in
-    held-tells (l .before .loop .inv) (l .loop-test .taken) _ .receipt
+    held-measures (l .before .loop .inv) (l .loop-test .taken) _ .receipt
 
 loop-less-3 : tie.Need-loop-less-3 Inv-loop μ-loop Inv-loop2 μ-loop2
 loop-less-3 c = search needs

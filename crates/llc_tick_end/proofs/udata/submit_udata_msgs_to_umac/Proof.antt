@@ -4,12 +4,12 @@ use mathlib.Core.Path.{_∙_, ap}
 use mathlib.Core.List.{List}
 use Rattle.bits.specs.Bits.{bits}
 use Rattle.llc_rule.specs.Records.{Record, unacknowledged, bytes}
-use Rattle.llc_state.specs.Ranges.{entryInRange}
+use Rattle.llc_state.specs.Ranges.{udataInRange}
 use Rattle.llc_state.specs.View.{sentIn}
 use Rattle.llc_state.specs.declared.Entry.{Entry}
 use Rattle.llc_state.proofs.Lengths.{lengths}
 use Rattle.llc_tick_end.specs.Passes.{udataBytesOf}
-use Rattle.llc_tick_end.proofs.Entries.{used-at, entry-tells}
+use Rattle.llc_tick_end.proofs.Entries.{used-at, udata-measures}
 use Rattle.llc_queues.proofs.Arrays.{udata}
 use Rattle.llc_tick_end.proofs.Draining.{Draining, reads, drains, drain-room, drains-on, all-handed, all-drained}
 use borrow.Author.Needs.{needs}
@@ -46,8 +46,8 @@ put-message-requires c κs =
     let a = s .args .t1 in
     let i = c .before .before .before .loop in
     let less = c .before .before .loop-test .taken in
-    let passes = used-at entryInRange (a .«n_udata») (a .«outbound_udata_messages») (i .i) _ (s .pre .1 .0) less (i .inv .handing .high) in
-    let told = entry-tells _ (ap entryInRange (reads (i .inv) _) ∙ passes) in
+    let passes = used-at udataInRange (a .«n_udata») (a .«outbound_udata_messages») (i .i) _ (s .pre .1 .0) less (i .inv .handing .high) in
+    let told = udata-measures _ (ap udataInRange (reads (i .inv) _) ∙ passes) in
     (s .pre .1 .1 .0, (told .block, (told .place, (told .len, drain-room (i .inv) _ less))))
 
 empty-requires : tie.Need-empty-requires Inv-loop μ-loop

@@ -1,0 +1,17 @@
+use borrow.Author.Needs.{needs}
+use Rattle.llc_state.specs.Ranges.{messageInRange}
+use Rattle.llc_state.proofs.ranges.message_in_range.Statement.{statement}
+use Rattle.llc_state.proofs.ranges.message_in_range.Tie as tie
+
+entry-in-range-requires : tie.Need-entry-in-range-requires
+entry-in-range-requires c κs = search needs
+
+is-valid-requires : tie.Need-is-valid-requires
+is-valid-requires c κs = search needs
+
+returns : tie.Need-returns
+unfolding messageInRange
+returns c = rw (c .before .before .before .before .before .entry-in-range .ensures, c .is-valid .ensures)
+
+pub message-in-range-spec : {M : Type 1} → statement M
+message-in-range-spec = tie.close (tie.spec entry-in-range-requires is-valid-requires returns)
