@@ -30,3 +30,8 @@ splice l at vs = take at l ++ (vs ++ drop (at + length vs) l)
 abbrev pub AllBits : List ℕ → Type 0
 AllBits [] = Unit {0}
 AllBits (b ∷ bs) = (b < 2) × AllBits bs
+
+-- Every element is a byte, as in every slice of bytes.
+abbrev pub AllBytes : List ℕ → Type 0
+AllBytes [] = Unit {0}
+AllBytes (b ∷ bs) = (b < 256) × AllBytes bs
