@@ -1,5 +1,6 @@
 pub mod AllLoops
 pub mod InRange
+pub mod InUse
 mod Lending
 pub mod Lengths
 pub mod Maps

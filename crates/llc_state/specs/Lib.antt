@@ -1,3 +1,4 @@
+pub mod InUse
 pub mod Ranges
 pub mod Receipts
 pub mod States

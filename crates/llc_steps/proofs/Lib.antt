@@ -1,6 +1,7 @@
 pub mod Relaid
 pub mod TickEnd
 pub mod Calls
+pub mod NotStarted
 pub mod Places
 pub mod Requests
 pub mod Steps
