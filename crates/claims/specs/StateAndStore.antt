@@ -13,6 +13,7 @@ use Rattle.llc_rule.specs.Step.{step}
 use Rattle.llc_rule.specs.Sound.{All}
 use Rattle.llc_state.specs.View.{frameIn, linkIn, placeBit}
 use Rattle.llc_state.specs.States.{atTime, newState, startedState}
+use Rattle.llc_state.specs.InUse.{used}
 use Rattle.llc_state.specs.Ranges.{inRange}
 use Rattle.llc_state.specs.declared.State.{State}
 use Rattle.llc_state.specs.declared.Entry.{Entry}
@@ -30,6 +31,10 @@ pub record StateAndStore : Type 0 where
   pub new-in-range : inRange newState ≡ true
   pub started-in-range : (carrier t251 : ℕ) → ltb 0 t251 ≡ true → inRange (startedState carrier t251) ≡ true
   pub time-in-range : (s : State) (ts : TdmaTime) → inRange s ≡ true → valid ts ≡ true → inRange (atTime s ts) ≡ true
+  -- Question 1 and the link look only at what is in use, and before a start a call looks only at that.
+  pub used-asked : (s : State) → inRange (used s) ≡ inRange s
+  pub used-seen : (s : State) (store : List ℕ) → linkIn (used s) store ≡ linkIn s store
+  pub steps-not-started : (s : State) (store bytes : List ℕ) → s .started ≡ false → steps s store bytes ≡ steps newState store bytes
   -- What a call on a state and a store gives, as a link, is what `step` gives on the link that they hold.
   pub steps-in : (s : State) (store : List ℕ) → Ready s store → (bytes : List ℕ) → keptIn (steps s store bytes) ≡ step (linkIn s store) bytes
   -- The arrays have their lengths in every state that the code has (`lengths` of llc_state).
