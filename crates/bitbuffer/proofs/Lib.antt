@@ -1,4 +1,5 @@
 pub mod Bounds
+pub mod Examples
 pub mod Growing
 pub mod Laws
 pub mod Peeking
