@@ -149,12 +149,14 @@ sound-acknowledged h l t ns ds rs b f room roomDue roomRows s =
       free = free-written h (l .receipts) (t .receipt) (some (t .ssi)) (pending true) inside refl (s .free);
       waiting =
           all-append _ (l .acknowledged) (waiting t ns ∷ [])
-          (held-waiting h l (t .receipt) s f _)
-          (record {
-            expects = expects-new (l .receipts) (t .receipt) inside;
-            receipt = λ e. pending-new (l .receipts) (t .receipt) true inside;
-            time = λ e. refl;
-          }, tt);
+          (held-waiting h l (t .receipt) s f _) (
+            record {
+              expects = expects-new (l .receipts) (t .receipt) inside;
+              receipt = λ e. pending-new (l .receipts) (t .receipt) true inside;
+              time = λ e. refl;
+            },
+            tt,
+          );
       waitingToo = held-waiting-too h l (t .receipt) s f _;
       ahead =
           λ a.

@@ -23,7 +23,9 @@ returns c =
     acks-full (a .state) (a .f) (a .bytes .now) (a .pdu) (a .sdu .now) (a .place) (a .len) (n .result) (n .ensures .0) (n .ensures .1) (a .out .now) (c .before .if1 .taken) (c .refused .ensures)
 
 put-upward-requires : tie.Need-put-upward-requires
-put-upward-requires c κs = search needs
+put-upward-requires c κs =
+    let d = c .before .before .before .before .before .before .before .before .before .before in
+    (d .pre .1 .0, (d .pre .1 .1 .0, (d .pre .1 .1 .1 .0, d .pre .1 .1 .1 .1 .0)))
 
 acknowledge-requires : tie.Need-acknowledge-requires
 acknowledge-requires c κs =
@@ -79,7 +81,9 @@ returns-3 c =
     (c .refused2 .ensures)
 
 put-upward-requires-2 : tie.Need-put-upward-requires-2
-put-upward-requires-2 c κs = search needs
+put-upward-requires-2 c κs =
+    let d = c .before .before .before .before .before .before .before .before .before .before .before .before .before in
+    (d .pre .1 .0, (d .pre .1 .1 .0, (d .pre .1 .1 .1 .0, d .pre .1 .1 .1 .1 .0)))
 
 acknowledge-requires-2 : tie.Need-acknowledge-requires-2
 acknowledge-requires-2 c κs =
