@@ -8,7 +8,11 @@ use Rattle.llc_rule.proofs.Runs.Edges.{age, crowded, dues, lengths, messages, r
 use Rattle.llc_rule.proofs.Runs.Course.{refused-by-8, release, to-the-front, too-early}
 use Rattle.llc_rule.proofs.Runs.Awkward.{ages, discarded, early, frames, front, garbage, leaves, lost, restart, stealing, still, unacked, values}
 use Rattle.llc_rule.proofs.Runs.Marks.{marks, places, samePlaces}
-use Rattle.llc_rule.proofs.Instance.{instance}
+use Rattle.llc_rule.proofs.Runs.Widths as Widths
+use Rattle.llc_rule.proofs.Runs.Orders as Orders
+use Rattle.llc_rule.proofs.Runs.Ranges as Ranges
+use Rattle.llc_rule.proofs.Runs.Checks as Checks
+use Rattle.llc_rule.proofs.Instance.{instance, turned}
 
 pub record Computed : Type 0 where
   pub sample-agrees : agrees new sample ≡ true
@@ -39,4 +43,16 @@ pub record Computed : Type 0 where
   pub restart-agrees : agrees new restart ≡ true
   pub marks-agrees : agrees new marks ≡ true
   pub marks-left : samePlaces places (linkAfter new marks .receipts) ≡ true
+  pub widths-tags : agrees new Widths.tags ≡ true
+  pub widths-frames : agrees new Widths.frames ≡ true
+  pub widths-requests : agrees new Widths.requests ≡ true
+  pub widths-ages : agrees new Widths.ages ≡ true
+  pub orders-taken : agrees new Orders.taken ≡ true
+  pub orders-rowless : agrees crowded Orders.rowless ≡ true
+  pub orders-full-of-dues : agrees new Orders.full-of-dues ≡ true
+  pub orders-reported-once : agrees new Orders.reported-once ≡ true
+  pub ranges-values : agrees new Ranges.values ≡ true
+  pub checks-flagged : agrees new Checks.flagged ≡ true
+  pub checks-lengths : agrees new Checks.lengths ≡ true
   pub instance-agrees : agrees new instance ≡ true
+  pub turned-agrees : agrees new turned ≡ true

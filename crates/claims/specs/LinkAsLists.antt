@@ -2,19 +2,24 @@
 use Prim.Native.Nat.{ℕ, _+_, _/_, _≤_}
 use mathlib.Core.Path.{_≡_}
 use mathlib.Core.Bool.{true}
-use mathlib.Core.List.{List, _∷_}
+use mathlib.Core.List.{List, [], _∷_}
+use lib.Dec.{eqb}
 use lib.ListN.{drop, length}
-use Rattle.llc_rule.specs.Claim.{Demand3, OneUnderWay, Swap, unhindered}
-use Rattle.llc_rule.specs.Sendings.{HandedDown}
+use Rattle.llc_rule.specs.Lists.{all}
+use Rattle.llc_rule.specs.Claim.{Demand3, OneUnderWay, SeesTheSame, Swap, WhereTransmitted, unhindered}
+use Rattle.llc_rule.specs.Sendings.{AtMostFour, HandedDown, HandedDownByRule, sendings}
 use Rattle.llc_rule.specs.Link.{Link, new}
-use Rattle.llc_rule.specs.Runs.{after, given, run}
+use Rattle.llc_rule.specs.Runs.{Exchange, after, given, left, run}
 use Rattle.llc_rule.specs.Past.{holdersAfter, nobody}
 use Rattle.llc_rule.specs.Sound.{All, Sound, Within}
 use Rattle.llc_rule.specs.Records.{Indication, Record, Reply, Sent, allBytes, bytes, indicationBytes, replyBytes, sentBytes}
 use Rattle.llc_rule.specs.Sizes.{Fits, Small}
 use Rattle.llc_rule.specs.Step.{step}
-use Rattle.llc_rule.proofs.Instance.{instanceCalls}
+use Rattle.llc_rule.proofs.Applied.{answers, asked, secondRequest}
+use Rattle.llc_rule.proofs.FitsRuns.{FitsLink}
+use Rattle.llc_rule.proofs.Instance.{askSecond, hasKind, hasNumber, instanceCalls, laterCalls, turnedCalls}
 use Rattle.llc_rule.proofs.Records.{kind, maskSize, sizeIfAny}
+use Rattle.llc_rule.proofs.Values.{IsByte}
 
 pub record LinkAsLists : Type 0 where
   -- Each is a type with a definition in specs/.
@@ -22,14 +27,41 @@ pub record LinkAsLists : Type 0 where
   pub swap : Swap
   pub one-under-way : OneUnderWay
   pub handed-down : HandedDown
-  -- The hypothesis of demand 3 can be met.
+  pub handed-down-by-rule : HandedDownByRule
+  pub where-transmitted : WhereTransmitted
+  -- The hypotheses can be met, by a run with records of all five kinds and refused calls.
   pub unhindered-instance : unhindered (run new instanceCalls) ≡ true
+  pub unhindered-turned : unhindered (run new turnedCalls) ≡ true
+  pub instance-kinds : all (hasKind (run new instanceCalls)) (1 ∷ 2 ∷ 3 ∷ 4 ∷ 5 ∷ []) ≡ true
+  pub instance-numbers : all (hasNumber (run new instanceCalls)) (0 ∷ 3 ∷ 4 ∷ 15 ∷ 16 ∷ []) ≡ true
+  -- Two of its calls change places, and change back.
+  pub swap-instance :
+      (a : ℕ)
+      → SeesTheSame a
+      (run new instanceCalls) (after new instanceCalls .receipts) (run new turnedCalls) (after new turnedCalls .receipts)
+  pub swap-turned :
+      (a : ℕ)
+      → SeesTheSame a
+      (run new turnedCalls) (after new turnedCalls .receipts) (run new instanceCalls) (after new instanceCalls .receipts)
+  -- A request of it is handed down four times, on the link and by the rule.
+  pub four-instance : AtMostFour secondRequest (sendings 0x22 (run (left asked (step asked askSecond)) laterCalls))
+  pub four-times : eqb (length (sendings 0x22 (run (left asked (step asked askSecond)) laterCalls))) 4 ≡ true
+  pub four-by-rule : AtMostFour secondRequest (sendings 0x22 (drop 4 answers))
+  pub four-times-by-rule : eqb (length (sendings 0x22 (drop 4 answers))) 4 ≡ true
   -- What holds of queues, tables and receipts after every run.
   pub sound-run : (cs : List (List ℕ)) → Sound (holdersAfter nobody (run new cs)) (after new cs)
   -- A record's bytes determine it.
   pub determined : (r s : Record) → Fits r → Fits s → bytes r ≡ bytes s → r ≡ s
   -- The bytes of several records determine the records.
   pub all-determined : (rs ss : List Record) → All Fits rs → All Fits ss → allBytes rs ≡ allBytes ss → rs ≡ ss
+  -- The values of every record of every run of calls of bytes fit their fields.
+  pub new-fits : FitsLink new
+  pub fits-run :
+      (l : Link)
+      → FitsLink l
+      → (cs : List (List ℕ))
+      → All (All IsByte) cs
+      → All (λ (e : Exchange). All Fits (e .records)) (run l cs)
   -- A record's bytes begin with field 01 and its kind.
   pub begins : (r : Record) → bytes r ≡ 0x01 ∷ 0x00 ∷ 0x01 ∷ kind r ∷ drop 4 (bytes r)
   -- The lengths: kinds 1 and 3, kind 2, kinds 4 and 5.

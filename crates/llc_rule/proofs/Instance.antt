@@ -94,10 +94,10 @@ following one other =
     ∷ []
 
 -- The two requests in one order and in the other.
-unfoldable instance : List Told
+unfoldable pub instance : List Told
 instance = opening ++ (askFirst gets 0 ∷ askSecond gets 0 ∷ following toFirst toSecond)
 
-unfoldable turned : List Told
+unfoldable pub turned : List Told
 turned = opening ++ (askSecond gets 0 ∷ askFirst gets 0 ∷ following toSecond toFirst)
 
 -- The calls of the run: before the two, behind them, and all of them in either order.
@@ -127,11 +127,11 @@ turned-calls : callsOf turned ≡ turnedCalls
 unfolding turned openingCalls laterCalls
 turned-calls = refl
 
-instance-agrees : agrees new instance ≡ true
+pub instance-agrees : agrees new instance ≡ true
 unfolding agrees instance opening following
 instance-agrees = refl
 
-turned-agrees : agrees new turned ≡ true
+pub turned-agrees : agrees new turned ≡ true
 unfolding agrees turned opening following
 turned-agrees = refl
 

@@ -81,7 +81,7 @@ swap-turned-lents =
     unhindered-lents
 
 -- State and store when the second is asked for: the call is put to the link.
-abbrev askedAt : Station
+abbrev pub askedAt : Station
 askedAt = after (begin zeroStore) (openingLents ++ (lentFirst ∷ []))
 
 asked-there : Asked askedAt lentSecond

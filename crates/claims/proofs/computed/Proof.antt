@@ -5,6 +5,10 @@ use Rattle.llc_rule.proofs.Runs.Edges as Edges
 use Rattle.llc_rule.proofs.Runs.Course as Course
 use Rattle.llc_rule.proofs.Runs.Awkward as Awkward
 use Rattle.llc_rule.proofs.Runs.Marks as Marks
+use Rattle.llc_rule.proofs.Runs.Widths as Widths
+use Rattle.llc_rule.proofs.Runs.Orders as Orders
+use Rattle.llc_rule.proofs.Runs.Ranges as Ranges
+use Rattle.llc_rule.proofs.Runs.Checks as Checks
 use Rattle.llc_rule.proofs.Instance as Instance
 
 returns : tie.Need-returns
@@ -37,7 +41,19 @@ returns c = record {
   restart-agrees = Awkward.restart-agrees;
   marks-agrees = Marks.marks-agrees;
   marks-left = Marks.marks-left;
+  widths-tags = Widths.tags-agrees;
+  widths-frames = Widths.frames-agrees;
+  widths-requests = Widths.requests-agrees;
+  widths-ages = Widths.ages-agrees;
+  orders-taken = Orders.taken-agrees;
+  orders-rowless = Orders.rowless-agrees;
+  orders-full-of-dues = Orders.full-of-dues-agrees;
+  orders-reported-once = Orders.reported-once-agrees;
+  ranges-values = Ranges.values-agrees;
+  checks-flagged = Checks.flagged-agrees;
+  checks-lengths = Checks.lengths-agrees;
   instance-agrees = Instance.instance-agrees;
+  turned-agrees = Instance.turned-agrees;
 }
 
 pub computed-spec : {M : Type 1} → statement M

@@ -4,7 +4,11 @@ use Rattle.llc_rule.proofs.Demand3 as Demand3
 use Rattle.llc_rule.proofs.Swap as Swap
 use Rattle.llc_rule.proofs.UnderWay as UnderWay
 use Rattle.llc_rule.proofs.Sendings as Sendings
+use Rattle.llc_rule.proofs.SendingsByRule as SendingsByRule
+use Rattle.llc_rule.proofs.WhereTransmitted as WhereTransmitted
 use Rattle.llc_rule.proofs.Instance as Instance
+use Rattle.llc_rule.proofs.Applied as Applied
+use Rattle.llc_rule.proofs.FitsRuns as FitsRuns
 use Rattle.llc_rule.proofs.SoundCalls as SoundCalls
 use Rattle.llc_rule.proofs.Records as Records
 use Rattle.llc_rule.proofs.Room as Room
@@ -15,10 +19,23 @@ returns c = record {
   swap = Swap.swap;
   one-under-way = UnderWay.one-under-way;
   handed-down = Sendings.handed-down;
+  handed-down-by-rule = SendingsByRule.handed-down-by-rule;
+  where-transmitted = WhereTransmitted.where-transmitted;
   unhindered-instance = Instance.unhindered-instance;
+  unhindered-turned = Instance.unhindered-turned;
+  instance-kinds = Instance.instance-kinds;
+  instance-numbers = Instance.instance-numbers;
+  swap-instance = Applied.swap-instance;
+  swap-turned = Applied.swap-turned;
+  four-instance = Applied.four-instance;
+  four-times = Applied.four-times;
+  four-by-rule = Applied.four-by-rule;
+  four-times-by-rule = Applied.four-times-by-rule;
   sound-run = SoundCalls.sound-run;
   determined = Records.determined;
   all-determined = Records.all-determined;
+  new-fits = FitsRuns.new-fits;
+  fits-run = FitsRuns.fits-run;
   begins = Records.begins;
   length-sent = Records.length-sent;
   length-reply = Records.length-reply;

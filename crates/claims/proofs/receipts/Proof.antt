@@ -7,6 +7,7 @@ returns c = record {
   numbered-number = Laws.numbered-number;
   made = Laws.made;
   refused = Laws.refused;
+  made-by-number = Laws.made-by-number;
   final-is-last = Laws.final-is-last;
 }
 

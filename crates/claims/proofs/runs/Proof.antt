@@ -3,6 +3,7 @@ use Rattle.claims.proofs.runs.Tie as tie
 use Rattle.llc.proofs.Determined as Determined
 use Rattle.llc_runs.proofs.Claim as Claim
 use Rattle.llc_runs.proofs.Instance as Instance
+use Rattle.llc_runs.proofs.Applied as Applied
 
 returns : tie.Need-returns
 returns c = record {
@@ -11,6 +12,15 @@ returns c = record {
   claim = Claim.claim;
   unhindered-lents = Instance.unhindered-lents;
   sees-lents = Instance.sees-lents;
+  unhindered-turned-lents = Instance.unhindered-turned-lents;
+  kinds-lents = Instance.kinds-lents;
+  numbers-lents = Instance.numbers-lents;
+  one-lent = Instance.one-lent;
+  swap-lents = Applied.swap-lents;
+  swap-turned-lents = Applied.swap-turned-lents;
+  four-lents = Applied.four-lents;
+  four-times-lents = Applied.four-times-lents;
+  four-by-rule-lents = Applied.four-by-rule-lents;
 }
 
 pub runs-spec : {M : Type 1} → statement M
