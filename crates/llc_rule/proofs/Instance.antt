@@ -30,7 +30,7 @@ abbrev toSecond : List ℕ
 toSecond = hex 61 0x010001010200035bc72d0300010104000205fa05000400000000060004b5a69788070004796a5b4c080001000a0001220b00033d2e1f0c0004000e152c
 
 -- A call before the start is refused; then a start, a time, and bytes that are no call.
-unfoldable opening : List Told
+unfoldable pub opening : List Told
 opening =
     hex 3 0x230000 gets 4
     ∷ hex 7 0x21000405fa0004 gets 0
@@ -46,7 +46,7 @@ abbrev pub askSecond : List ℕ
 askSecond = hex 33 0x24001e5bc72d01000000f1e2d3c4b5a69788796a5b4c000022033d2e1f0009a580
 
 -- What follows, where the first tick end hands the two down in the order that they were asked for.
-unfoldable following : List ℕ → List ℕ → List Told
+unfoldable pub following : List ℕ → List ℕ → List Told
 following one other =
     -- A report for a message that waits; an unacknowledged message; an SDU for each address, of which one asks for a reply.
     hex 5 0x2700021101 gets 15
