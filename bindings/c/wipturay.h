@@ -109,7 +109,7 @@ static_assert(sizeof(struct wipturay_answer) == 15552, "wipturay_answer");
 /** The state of a link that is empty and not started. */
 struct wipturay_state wipturay_new(void);
 
-/** One call of any bytes, on any state, with any store and output.
+/** One call of any bytes, on any state whose bools are 0 or 1, with any store and output.
  *
  * Store and output may not overlap each other or the bytes. A refused call (number not 0) leaves state, store and output as
  * they were. The library keeps no pointer. */

@@ -1,4 +1,5 @@
--- Runs that the checker computes (llc_rule proofs/Runs): document 01's sample, its edges, what the course gets wrong, awkward runs, marks.
+-- Runs that the checker computes (llc_rule proofs/Runs and proofs/Instance): document 01's sample, its edges, what the course gets wrong,
+-- awkward runs, marks, full widths, orders of questions, ranges, check sequences, and the instance.
 use mathlib.Core.Path.{_≡_}
 use mathlib.Core.Bool.{true}
 use Rattle.llc_rule.specs.Link.{new}

@@ -84,8 +84,8 @@ pub record Swap : Type 0 where
       (run new (before ++ (d ∷ c ∷ later)))
       (after new (before ++ (d ∷ c ∷ later)) .receipts)
 
--- "By that rule an address has at most one acknowledged message under way", after every list of calls: those that the rule
--- keeps, and on the link, whatever was refused.
+-- "By that rule an address has at most one acknowledged message under way": among those that the rule keeps after a past of an
+-- unhindered run, and on the link after every list of calls, whatever was refused.
 abbrev pub underWay : List Message → ℕ
 underWay ms = length (keep (λ (m : Message). m .submitted) ms)
 

@@ -1,4 +1,5 @@
--- A state with nothing in it but the values in use: those beyond a count are left out, and the others are the empty ones.
+-- A state with nothing in it but the values in use: those beyond a count are left out, and the others are the empty ones. Main
+-- carrier, T251 and time are as they are, also before a start.
 use Prim.Native.Nat.{ℕ}
 use mathlib.Core.Bool.{Bool, false, cond}
 use mathlib.Core.List.{map}
@@ -45,7 +46,6 @@ abbrev pub usedPlace : ReceiptPlace → ReceiptPlace
 usedPlace p =
     record { taken = p .taken; «expects_ack» = cond (p .taken) (p .«expects_ack») false; state = cond (p .taken) (p .state) 0 }
 
--- T251 and the time are as they are: whether they are in use is whether the link was started.
 unfoldable pub used : State → State
 used s =
     record {

@@ -1,5 +1,5 @@
-// The marks of a receipt that the link takes back, each through the mark of a receipt that is lent: the only functions of the
-// link that make a reference to a struct, so that each is proved by a walk by hand (proofs/Lending.antt).
+// The three marks that the link makes on a receipt that it lends: its only functions that make a reference to a struct, so that
+// each is proved by a walk by hand (proofs/Lending.antt).
 ghost use mathlib.Core.Path.{_≡_};
 ghost use Rattle.tx_receipt.specs.Marks.{acknowledged, lost, reset, marked};
 use tx_receipt::TxReceipt;

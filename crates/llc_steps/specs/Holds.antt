@@ -26,7 +26,7 @@ pub record Counted (s : State) : Type 0 where
   pub acks : length (acksOf s) ≡ s .«n_acks»
   pub rows : length (rowsOf s) ≡ s .«n_rows»
 
--- A frame lies in one of the 96 places, with at most so many bits as a place has room for.
+-- A frame lies in one of the 96 places, with at most so many bits as the longest frame has.
 abbrev pub Stored : Entry → Type 0
 Stored e = (e .place < 96) × (e .len ≤ lengthOf adata + longest)
 

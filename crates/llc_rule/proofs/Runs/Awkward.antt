@@ -1,4 +1,4 @@
--- Runs on what is easily read otherwise. They were written by a reader of document 01 who had not seen the definitions.
+-- Runs on what is easily read otherwise, written from document 01 alone.
 use mathlib.Core.Path.{_≡_, refl}
 use mathlib.Core.Bool.{true}
 use mathlib.Core.List.{List, [], _∷_, _++_}

@@ -49,11 +49,11 @@ pub struct Came {
 /// Why the Rust is not asked, or what it does instead, by a point of docs/DIFFERENCES.md.
 #[derive(Debug, PartialEq, Eq)]
 pub enum Difference {
-    /// "A window that does not lie inside its bytes": the Rust has no such window.
+    /// "A window that does not lie inside its bytes", "A new window over more bits than are lent": the Rust has no such window.
     NoWindow,
     /// "A write that has no room": the Rust's buffer grows where the lent bytes end.
     Grows,
-    /// "A write that has no room": the Rust's copy makes its own bytes.
+    /// "A copy without room": the Rust's copy makes its own bytes.
     OwnBytes,
 }
 
