@@ -6,7 +6,7 @@ ghost use mathlib.Core.List.{_++_};
 ghost use lib.ListN.{length, replicate};
 ghost use Rattle.bits.specs.Bits.{toBits, value, bits, part, splice};
 
-// The number that n bits from a place on spell.
+/// The number that n bits from a place on spell.
 pub fn get(bytes: &[u8], at: usize, n: usize) -> u64
     requires { ⌜ n ≤ 64 ⌝ }
     requires { ⌜ at + n ≤ 8 * length (now bytes) ⌝ }
@@ -35,7 +35,7 @@ fn get_from(bytes: &[u8], first: usize, place: usize, n: usize) -> u64
     r
 }
 
-// Puts n bits of v at a place.
+/// Puts n bits of v at a place.
 pub fn put(bytes: &mut [u8], at: usize, n: usize, v: u64)
     requires { ⌜ n ≤ 64 ⌝ }
     requires { ⌜ at + n ≤ 8 * length (now bytes) ⌝ }
@@ -63,7 +63,7 @@ fn put_from(bytes: &mut [u8], first: usize, place: usize, n: usize, v: u64)
     }
 }
 
-// Puts n times a bit at a place, by up to 64 at once.
+/// Puts n times a bit at a place, by up to 64 at once.
 pub fn fill(bytes: &mut [u8], at: usize, n: usize, bit: u64)
     requires { ⌜ bit < 2 ⌝ }
     requires { ⌜ at + n ≤ 8 * length (now bytes) ⌝ }
@@ -81,7 +81,7 @@ pub fn fill(bytes: &mut [u8], at: usize, n: usize, bit: u64)
     }
 }
 
-// Puts n bits of src from a place on at a place of dst: up to the next whole byte, whole bytes, and what is left.
+/// Puts n bits of src from a place on at a place of dst: up to the next whole byte, whole bytes, and what is left.
 pub fn copy(src: &[u8], from: usize, dst: &mut [u8], at: usize, n: usize)
     requires { ⌜ from + n ≤ 8 * length (now src) ⌝ }
     requires { ⌜ from + n < 2 ^ 64 ⌝ }
@@ -111,7 +111,7 @@ fn copy_field(src: &[u8], from: usize, dst: &mut [u8], at: usize, n: usize)
     put(dst, at, n, get(src, from, n));
 }
 
-// The same for k whole bytes of dst from byte q on.
+/// The same for k whole bytes of dst from byte q on.
 pub fn copy_bytes(src: &[u8], from: usize, dst: &mut [u8], q: usize, k: usize)
     requires { ⌜ from + 8 * k ≤ 8 * length (now src) ⌝ }
     requires { ⌜ q + k ≤ length (now dst) ⌝ }

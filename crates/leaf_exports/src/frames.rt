@@ -23,8 +23,11 @@ pub struct FrameAnswer {
     pub number: u8,
     /// The type, 0 to 3.
     pub kind: u8,
+    /// The FCS flag.
     pub has_fcs: bool,
+    /// N(R), if the type has one.
     pub nr: bool,
+    /// N(S), if the type has one.
     pub ns: bool,
     /// The SDU's first bit's place in the frame.
     pub first: usize,

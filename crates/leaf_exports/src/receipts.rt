@@ -12,6 +12,7 @@ use tx_receipt::TxState;
 pub struct ReceiptAnswer {
     /// Document 01's number, 0 where it is accepted.
     pub number: u8,
+    /// Is an acknowledgement expected?
     pub expects_ack: bool,
     /// The state's number, 0 to 4.
     pub state: u8,

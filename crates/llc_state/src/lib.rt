@@ -10,20 +10,27 @@ use tdma_time::TdmaTime;
 /// A message that the link holds. Its frame's bits lie in the store.
 #[repr(C)]
 pub struct Entry {
+    /// Address to which it is sent.
     pub ssi: u32,
     /// 1 individual, 2 group.
     pub ssi_type: u8,
     /// Carrier on which the message is sent.
     pub carrier_num: u16,
+    /// Link id with which it is sent.
     pub link_id: u32,
+    /// The request's endpoint.
     pub endpoint_id: u32,
+    /// The request's handle.
     pub req_handle: u32,
+    /// May it steal?
     pub stealing_permission: bool,
+    /// Is there a timeslot mask?
     pub has_mask: bool,
     /// Timeslot mask, if there is one.
     pub mask: u8,
     /// The number of its receipt.
     pub receipt: u8,
+    /// How many bytes of the block count.
     pub block_len: usize,
     /// Pass-through block, of which `block_len` bytes count.
     pub block: [u8; 64],
@@ -39,13 +46,16 @@ pub struct Entry {
     pub has_umac_done: bool,
     /// When that was noted.
     pub t_umac_done: TdmaTime,
+    /// How often it was passed down again.
     pub retransmit_count: u8,
 }
 
 /// An acknowledgement that is due.
 #[repr(C)]
 pub struct ScheduledOutAck {
+    /// Address from which the original message came.
     pub ssi: u32,
+    /// 1 individual, 2 group.
     pub ssi_type: u8,
     /// Carrier on which the original message was received.
     pub carrier_num: u16,
@@ -58,7 +68,9 @@ pub struct ScheduledOutAck {
 /// The place of a receipt: the receipt, if it is taken.
 #[repr(C)]
 pub struct ReceiptPlace {
+    /// Does a request hold it?
     pub taken: bool,
+    /// Is an acknowledgement expected?
     pub expects_ack: bool,
     /// The number of the receipt's state.
     pub state: u8,
@@ -67,24 +79,39 @@ pub struct ReceiptPlace {
 /// The send sequence variable of an SSI.
 #[repr(C)]
 pub struct LinkSendSeq {
+    /// The address.
     pub ssi: u32,
+    /// The N(S) of its next message.
     pub vs: bool,
 }
 
 /// The link. The counts stand together, in front of the arrays.
 #[repr(C)]
 pub struct State {
+    /// Was there a start?
     pub started: bool,
+    /// Carrier of requests that give none.
     pub main_carrier: u16,
+    /// How many slots until a message is passed down again.
     pub t251: u16,
+    /// The time of the last tick start.
     pub dltime: TdmaTime,
+    /// How many acknowledged messages are held.
     pub n_messages: usize,
+    /// How many unacknowledged messages are held.
     pub n_udata: usize,
+    /// How many acknowledgements are due.
     pub n_acks: usize,
+    /// How many addresses have a row.
     pub n_rows: usize,
+    /// The acknowledged messages, in the order of the queue.
     pub outbound_messages: [Entry; 64],
+    /// The unacknowledged messages, oldest first.
     pub outbound_udata_messages: [Entry; 32],
+    /// The acknowledgements that are due, oldest first.
     pub scheduled_out_acks: [ScheduledOutAck; 64],
+    /// The receipts, by their numbers.
     pub receipts: [ReceiptPlace; 128],
+    /// The address rows.
     pub link_send_seq: [LinkSendSeq; 256],
 }

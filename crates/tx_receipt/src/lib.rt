@@ -24,7 +24,9 @@ pub enum TxState {
 
 /// A transmit receipt.
 pub struct TxReceipt {
+    /// Is an acknowledgement expected?
     pub expects_ack: bool,
+    /// How far the message has come.
     pub state: TxState,
 }
 
