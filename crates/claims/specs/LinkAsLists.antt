@@ -6,18 +6,19 @@ use mathlib.Core.List.{List, [], _∷_}
 use lib.Dec.{eqb}
 use lib.ListN.{drop, length}
 use Rattle.llc_rule.specs.Lists.{all}
-use Rattle.llc_rule.specs.Claim.{Demand3, OneUnderWay, SeesTheSame, Swap, WhereTransmitted, unhindered}
+use Rattle.llc_rule.specs.Rule.{atFirst}
+use Rattle.llc_rule.specs.Claim.{Demand3, OneUnderWay, SeesTheSame, Swap, WhereTransmitted, calls, ruleRun, unhindered}
 use Rattle.llc_rule.specs.Sendings.{AtMostFour, HandedDown, HandedDownByRule, sendings}
 use Rattle.llc_rule.specs.Link.{Link, new}
 use Rattle.llc_rule.specs.Runs.{Exchange, after, given, left, run}
-use Rattle.llc_rule.specs.Past.{holdersAfter, nobody}
+use Rattle.llc_rule.specs.Past.{holdersAfter, nobody, past}
 use Rattle.llc_rule.specs.Sound.{All, Sound, Within}
 use Rattle.llc_rule.specs.Records.{Indication, Record, Reply, Sent, allBytes, bytes, indicationBytes, replyBytes, sentBytes}
 use Rattle.llc_rule.specs.Sizes.{Fits, Small}
 use Rattle.llc_rule.specs.Step.{step}
 use Rattle.llc_rule.proofs.Applied.{answers, asked, secondRequest}
 use Rattle.llc_rule.proofs.FitsRuns.{FitsLink}
-use Rattle.llc_rule.proofs.Instance.{askSecond, hasKind, hasNumber, instanceCalls, laterCalls, turnedCalls}
+use Rattle.llc_rule.proofs.Instance.{askSecond, hasKind, hasNumber, instanceCalls, laterCalls, second, turnedCalls}
 use Rattle.llc_rule.proofs.Records.{kind, maskSize, sizeIfAny}
 use Rattle.llc_rule.proofs.Values.{IsByte}
 
@@ -46,7 +47,9 @@ pub record LinkAsLists : Type 0 where
   -- A request of it is handed down four times, on the link and by the rule.
   pub four-instance : AtMostFour secondRequest (sendings 0x22 (run (left asked (step asked askSecond)) laterCalls))
   pub four-times : eqb (length (sendings 0x22 (run (left asked (step asked askSecond)) laterCalls))) 4 ≡ true
-  pub four-by-rule : AtMostFour secondRequest (sendings 0x22 (drop 4 answers))
+  pub four-by-rule :
+      AtMostFour secondRequest (sendings 0x22 (drop 4 (ruleRun atFirst (calls (past second nobody (run new instanceCalls))))))
+  pub answers-are : ruleRun atFirst (calls (past second nobody (run new instanceCalls))) ≡ answers
   pub four-times-by-rule : eqb (length (sendings 0x22 (drop 4 answers))) 4 ≡ true
   -- What holds of queues, tables and receipts after every run.
   pub sound-run : (cs : List (List ℕ)) → Sound (holdersAfter nobody (run new cs)) (after new cs)

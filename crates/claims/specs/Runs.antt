@@ -1,19 +1,28 @@
 -- Runs of the entry point (llc_runs).
-use Prim.Native.Nat.{ℕ}
+use Prim.Native.Nat.{ℕ, _≤_}
 use mathlib.Core.Path.{_≡_}
 use mathlib.Core.Bool.{true}
-use mathlib.Core.List.{[], _∷_}
+use mathlib.Core.List.{List, [], _∷_, map}
+use mathlib.Core.Option.{some}
 use lib.Dec.{eqb}
 use lib.ListN.{drop, length}
 use Rattle.llc_rule.specs.Lists.{all}
-use Rattle.llc_rule.specs.Claim.{SeesItsOwnPast, SeesTheSame, unhindered}
-use Rattle.llc_rule.specs.Sendings.{AtMostFour, sendings}
-use Rattle.llc_rule.proofs.Applied.{answers, secondRequest}
-use Rattle.llc_rule.proofs.Instance.{hasKind, hasNumber}
+use Rattle.bits.specs.Bits.{AllBytes, bits}
+use Rattle.llc_rule.specs.Calls.{Request, parsed}
+use Rattle.llc_rule.specs.Claim.{SeesItsOwnPast, SeesTheSame, calls, ruleAfter, ruleRun, ruleSights, unhindered}
+use Rattle.llc_rule.specs.Sendings.{AtMostFour, requestOf, sendings}
+use Rattle.llc_rule.specs.Past.{heldBy, holdersAfter, nobody, past, sight, strays, takenFrom}
+use Rattle.llc_rule.specs.Rule.{atFirst}
+use Rattle.llc_rule.proofs.Applied.{secondRequest}
+use Rattle.llc_rule.proofs.Instance.{hasKind, hasNumber, second}
 use Rattle.llc_runs.specs.Claim.{Claim, receiptsAfter}
-use Rattle.llc.specs.Determined.{OneAnswer, NoLeavesAll}
+use Rattle.llc.specs.Determined.{Left, NoLeavesAll, OneAnswer}
+use Rattle.llc.specs.Entry.{callOf}
+use Rattle.llc_state.specs.View.{linkIn}
+use Rattle.llc_state.specs.declared.State.{State}
+use Rattle.llc_steps.specs.Answers.{effect}
 use Rattle.llc_runs.specs.Heard.{heard}
-use Rattle.llc_runs.specs.Runs.{after, begin, exchange, left, run}
+use Rattle.llc_runs.specs.Runs.{Lent, after, begin, exchange, left, run}
 use Rattle.llc_runs.proofs.Applied.{askedAt}
 use Rattle.llc_runs.proofs.Instance.{laterLents, lentSecond, lents, started, tooShort, turnedLents, zeroStore}
 
@@ -21,8 +30,36 @@ pub record Runs : Type 0 where
   -- The contract of `call` leaves one answer, and a refusal changes no byte.
   pub one-answer : OneAnswer
   pub no-leaves-all : NoLeavesAll
-  -- All that is claimed of every run.
+  -- All that is claimed of every run; what it says of an address, of one answer and of four sendings is spelled out below.
   pub claim : Claim
+  pub seen :
+      (store : List ℕ) (cs : List Lent)
+      → unhindered (run (begin store) cs) ≡ true
+      → (a : ℕ)
+      → map (sight a) (past a nobody (run (begin store) cs)) ≡ ruleSights atFirst (calls (past a nobody (run (begin store) cs)))
+  pub receipts :
+      (store : List ℕ) (cs : List Lent)
+      → unhindered (run (begin store) cs) ≡ true
+      → (a : ℕ)
+      → heldBy a (holdersAfter nobody (run (begin store) cs)) 0 (linkIn (after (begin store) cs .state) (after (begin store) cs .store) .receipts)
+      ≡ takenFrom 0 (ruleAfter atFirst (calls (past a nobody (run (begin store) cs))) .receipts)
+  pub alone :
+      (store : List ℕ) (cs : List Lent)
+      → unhindered (run (begin store) cs) ≡ true
+      → (a : ℕ)
+      → strays a nobody (run (begin store) cs) ≡ []
+  pub few :
+      (store : List ℕ) (before : List Lent) (c : Lent) (r : Request) (later : List Lent)
+      → exchange (after (begin store) before) c .number ≡ 0
+      → requestOf (parsed (c .call)) ≡ some r
+      → length (sendings (r .receipt) (run (left (after (begin store) before) c) later)) ≤ 4
+  pub one :
+      (s : State) (store out bytes : List ℕ) (l m : Left)
+      → AllBytes (l .store)
+      → AllBytes (m .store)
+      → effect (l .answer) (bits (l .store)) (l .out) ≡ callOf s (bits store) out bytes
+      → effect (m .answer) (bits (m .store)) (m .out) ≡ callOf s (bits store) out bytes
+      → l ≡ m
   -- The hypotheses can be met, by a run with records of all five kinds, refused calls and one that is lent too little.
   pub unhindered-lents : unhindered (run (begin zeroStore) lents) ≡ true
   pub sees-lents : (a : ℕ) → SeesItsOwnPast (run (begin zeroStore) lents) (receiptsAfter zeroStore lents) a
@@ -48,4 +85,6 @@ pub record Runs : Type 0 where
   -- A request of it is handed down four times, in the run and by the rule.
   pub four-lents : AtMostFour secondRequest (sendings 0x22 (run (left askedAt lentSecond) laterLents))
   pub four-times-lents : eqb (length (sendings 0x22 (run (left askedAt lentSecond) laterLents))) 4 ≡ true
-  pub four-by-rule-lents : AtMostFour secondRequest (sendings 0x22 (drop 4 answers))
+  pub four-by-rule-lents :
+      AtMostFour secondRequest
+      (sendings 0x22 (drop 4 (ruleRun atFirst (calls (past second nobody (run (begin zeroStore) lents))))))

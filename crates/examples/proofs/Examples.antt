@@ -1,6 +1,8 @@
 -- The one proof over document 01's table: the checker computes the whole test.
 use mathlib.Core.Path.{_≡_, refl}
 use mathlib.Core.Bool.{true}
+use lib.Dec.{eqb}
+use lib.ListN.{length}
 use Rattle.bits.specs.Bits.{toBits, value}
 use Rattle.fcs.specs.Polynomials.{plus, divisor, rest}
 use Rattle.fcs.specs.Fcs.{start, fcs}
@@ -13,3 +15,8 @@ use Rattle.examples.specs.Table.{table, sameℤ, same, sameOutcome, righ
 pub examples : right table ≡ true
 unfolding right sameOutcome same sameℤ table toBits value fcs start plus divisor rest reading received checked checks modulo valid slots timeAt plusSlots centred minus ahead forward
 examples = refl
+
+-- None of its rows is missing.
+pub all-rows : eqb (length table) 15 ≡ true
+unfolding table
+all-rows = refl

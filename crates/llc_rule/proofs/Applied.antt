@@ -116,7 +116,7 @@ unfolding exchanges ruleRun atFirst dueOn requested afterData afterUnitdata afte
     toBytes openingCalls laterCalls
 answers = ruleRun atFirst (calls (pastOnce second nobody (run new instanceCalls)))
 
-answers-are : ruleRun atFirst (calls (past second nobody (run new instanceCalls))) ≡ answers
+pub answers-are : ruleRun atFirst (calls (past second nobody (run new instanceCalls))) ≡ answers
 unfolding answers ruleRun
 answers-are = ap (λ (es : List Exchange). ruleRun atFirst (calls es)) (past-once second nobody (run new instanceCalls))
 
@@ -152,10 +152,12 @@ unfolding fourth
 answers-parts = answers-are ∙ parts 3 answers nothing (ltb-true 3 (length answers) enough)
 
 -- And it hands it down four times.
-pub four-by-rule : AtMostFour secondRequest (sendings 0x22 (drop 4 answers))
+pub four-by-rule :
+    AtMostFour secondRequest (sendings 0x22 (drop 4 (ruleRun atFirst (calls (past second nobody (run new instanceCalls))))))
 four-by-rule =
-    handed-down-by-rule .each instanceCalls unhindered-instance second .each
-    (take 3 answers) fourth (drop 4 answers) secondRequest answers-parts fourth-accepted fourth-asks
+    rw answers-are
+    (handed-down-by-rule .each instanceCalls unhindered-instance second .each
+    (take 3 answers) fourth (drop 4 answers) secondRequest answers-parts fourth-accepted fourth-asks)
 
 pub four-times-by-rule : eqb (length (sendings 0x22 (drop 4 answers))) 4 ≡ true
 unfolding answers sendings handed

@@ -4,14 +4,19 @@ use mathlib.Core.Path.{_≡_, refl}
 use mathlib.Core.Bool.{true, false}
 use mathlib.Core.List.{List, [], _∷_, map}
 use mathlib.Core.Option.{Option, none, some}
-use lib.ListN.{length}
+use lib.Dec.{eqb}
+use lib.ListN.{length, set}
+use Rattle.questions.specs.Outcome.{number}
 use Rattle.tx_receipt.specs.Marks.{discarded}
+use Rattle.tx_receipt.specs.declared.TxState.the-variants.{Transmitted}
 use Rattle.llc_rule.specs.Lists.{keep, any, all}
 use Rattle.llc_rule.specs.Calls.{toBytes}
 use Rattle.llc_rule.specs.Records.{Record, acknowledged, reply, unacknowledged, dataUp, unitdataUp, Sent, Indication}
-use Rattle.llc_rule.specs.Messages.{Place, free, pending, marked}
+use Rattle.llc_rule.specs.Messages.{Place, free, taken, pending, marked}
+use Rattle.llc_rule.specs.Link.{Link, new, withReceipts}
+use Rattle.llc_rule.specs.Step.{step}
 use Rattle.llc_rule.specs.Rule.{atFirst, afterStart, afterReport, does, judged, rule}
-use Rattle.llc_rule.specs.Runs.{Exchange}
+use Rattle.llc_rule.specs.Runs.{Exchange, after}
 use Rattle.llc_rule.specs.Past.{Holders, nobody, holders, everybody's, nobody's, belongsTo, whose, inPast, past, strays, holdersAfter, sight, heldBy, takenFrom}
 use Rattle.llc_rule.specs.Claim.{ruleRun, unhindered}
 use Rattle.llc_rule.specs.Sendings.{handed, sendings}
@@ -230,3 +235,22 @@ rule-answers :
     ≡ told tickEnd 4 [] ∷ told start 0 [] ∷ told tickStart 0 [] ∷ told noCall 3 [] ∷ told report 15 [] ∷ []
 unfolding ruleRun atFirst afterStart afterReport does judged rule toBytes exchanges
 rule-answers = refl
+
+-- A message that was sent and noted, and the same with a receipt that expects no acknowledgement, as no run leaves it: an N(R) that
+-- fits finishes the first, and is refused with 14 by the second, where the Rust panics.
+abbrev noted : Link
+noted = after new (start ∷ request ∷ tickEnd ∷ report ∷ tickEnd ∷ [])
+
+abbrev expectingNone : Link
+expectingNone = withReceipts noted (set (noted .receipts) 0x11 (taken (record { «expects_ack» = false; state = Transmitted })))
+
+abbrev fitting : List ℕ
+fitting = hex 21 0x2600120a3e91012a6b4e5f60718293a4b500000530
+
+expects-one : eqb (number (step noted fitting)) 0 ≡ true
+unfolding after toBytes exchanges
+expects-one = refl
+
+expects-none : eqb (number (step expectingNone fitting)) 14 ≡ true
+unfolding after toBytes exchanges
+expects-none = refl

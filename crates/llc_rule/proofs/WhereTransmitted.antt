@@ -1,17 +1,25 @@
 -- In a run the receipt of an acknowledged message expects an acknowledgement, so that it is marked wherever it is Transmitted.
-use mathlib.Core.Path.{_≡_, refl}
+use Prim.Native.Nat.{ℕ}
+use mathlib.Core.Path.{_≡_, _∙_, refl, ap, subst}
 use mathlib.Core.Bool.{true}
-use mathlib.Core.List.{List}
+use mathlib.Core.List.{List, [], _∷_}
+use mathlib.Core.Option.{Option}
+use lib.Dec.{eqb}
 use Rattle.tx_receipt.specs.States.{is}
 use Rattle.tx_receipt.specs.Marks.{acknowledged, allowed}
 use Rattle.tx_receipt.specs.declared.TxState.the-variants.{Transmitted}
+use Rattle.llc_rule.specs.Lists.{keep}
 use Rattle.llc_rule.specs.Messages.{Message, Place, free, taken, placeAt, taken?}
 use Rattle.llc_rule.specs.Link.{new}
-use Rattle.llc_rule.specs.Runs.{after}
+use Rattle.llc_rule.specs.Rule.{Own}
+use Rattle.llc_rule.specs.Runs.{run, after}
+use Rattle.llc_rule.specs.Past.{Holders, nobody, holdersAfter, isHolder}
 use Rattle.llc_rule.specs.Claim.{MarkedWhereTransmitted, WhereTransmitted}
-use Rattle.llc_rule.specs.Sound.{expects, Waiting}
-use Rattle.llc_rule.proofs.Lists.{all-map}
+use Rattle.llc_rule.specs.Sound.{All, expects, Owned, Waiting, ofAddress, Sound}
+use Rattle.llc_rule.proofs.Lists.{all-map, by-test, keep-yes, keep-no}
+use Rattle.llc_rule.proofs.Own.{own, blank, place-own}
 use Rattle.llc_rule.proofs.SoundCalls.{sound-run}
+use Rattle.llc_rule.proofs.Demand3.{has-own}
 
 -- The table has one test for the two marks.
 expecting : (p : Place) → taken? expects p ≡ true → taken? (allowed acknowledged) p ≡ taken? (is Transmitted) p
@@ -22,6 +30,47 @@ held : (ps : List Place) (m : Message) → Waiting ps m → MarkedWhereTransmitt
 held ps m w =
     let e = expecting (placeAt ps (m .sent .receipt)) (w .expects) in record { acknowledged = e; lost = e }
 
+-- The same among the receipts that an address holds, of its own messages.
+held-own :
+    (a : ℕ) (h : Holders) (ps : List Place) (m : Message)
+    → eqb (m .sent .ssi) a ≡ true
+    → Owned h ps (m .sent)
+    → Waiting ps m
+    → MarkedWhereTransmitted (blank a h ps) m
+held-own a h ps m e o w =
+    let there = place-own a h ps (m .sent .receipt) (ap (isHolder a) (o .holder) ∙ e) in
+    let marked = expecting (placeAt ps (m .sent .receipt)) (w .expects) in
+    record { acknowledged = rw there marked; lost = rw there marked }
+
+all-own :
+    (a : ℕ) (h : Holders) (ps : List Place) (ms : List Message)
+    → All (λ (m : Message). Owned h ps (m .sent)) ms
+    → All (Waiting ps) ms
+    → All (MarkedWhereTransmitted (blank a h ps)) (ofAddress a ms)
+unfolding keep
+all-own a h ps [] o w = tt
+all-own a h ps (m ∷ ms) o w =
+    let rest = all-own a h ps ms (o .1) (w .1) in
+    by-test (eqb (m .sent .ssi) a)
+    (λ t. rw t (held-own a h ps m t (o .0) (w .0), rest))
+    (λ t. rw t rest)
+
+own-marked :
+    (a : ℕ) (cs : List (List ℕ))
+    → All
+    (MarkedWhereTransmitted (own a (holdersAfter nobody (run new cs)) (after new cs) .receipts))
+    (own a (holdersAfter nobody (run new cs)) (after new cs) .acknowledged)
+unfolding own
+own-marked a cs =
+    all-own a (holdersAfter nobody (run new cs)) (after new cs .receipts) (after new cs .acknowledged)
+    (sound-run cs .owned)
+    (sound-run cs .waiting)
+
 pub where-transmitted : WhereTransmitted
 where-transmitted =
-    record { each = λ cs. all-map _ _ (after new cs .acknowledged) (held (after new cs .receipts)) (sound-run cs .waiting) }
+    record {
+      byRule =
+          λ cs u a.
+          subst (λ (o : Own). All (MarkedWhereTransmitted (o .receipts)) (o .acknowledged)) (has-own a cs u) (own-marked a cs);
+      onLink = λ cs. all-map _ _ (after new cs .acknowledged) (held (after new cs .receipts)) (sound-run cs .waiting);
+    }

@@ -98,11 +98,19 @@ pub record OneUnderWay : Type 0 where
   pub onLink : (cs : List (List ℕ)) (a : ℕ) → underWay (ofAddress a (after new cs .acknowledged)) ≤ 1
 
 -- "14. If N(R) would finish a message, is its receipt Transmitted?" and "Transmitted becomes Lost": of an acknowledged message
--- that is held the two marks are allowed exactly there, after every list of calls.
+-- that is held the two marks are allowed exactly there: on the link after every list of calls, and in what the rule keeps after a
+-- past of an unhindered run.
 pub record MarkedWhereTransmitted (ps : List Place) (m : Message) : Type 0 where
   pub acknowledged :
       taken? (allowed Marks.acknowledged) (placeAt ps (m .sent .receipt)) ≡ taken? (is Transmitted) (placeAt ps (m .sent .receipt))
   pub lost : taken? (allowed Marks.lost) (placeAt ps (m .sent .receipt)) ≡ taken? (is Transmitted) (placeAt ps (m .sent .receipt))
 
 pub record WhereTransmitted : Type 0 where
-  pub each : (cs : List (List ℕ)) → All (MarkedWhereTransmitted (after new cs .receipts)) (after new cs .acknowledged)
+  pub byRule :
+      (cs : List (List ℕ))
+      → unhindered (run new cs) ≡ true
+      → (a : ℕ)
+      → All
+      (MarkedWhereTransmitted (ruleAfter atFirst (calls (past a nobody (run new cs))) .receipts))
+      (ruleAfter atFirst (calls (past a nobody (run new cs))) .acknowledged)
+  pub onLink : (cs : List (List ℕ)) → All (MarkedWhereTransmitted (after new cs .receipts)) (after new cs .acknowledged)

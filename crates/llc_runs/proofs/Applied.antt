@@ -17,7 +17,7 @@ use Rattle.llc_rule.specs.Claim as OnLink
 use Rattle.llc_rule.specs.Claim.{ruleRun, calls, SeesTheSame}
 use Rattle.llc_rule.specs.Sendings.{sendings, AtMostFour}
 use Rattle.llc_rule.proofs.Instance.{first, second, askFirst, askSecond, openingCalls, instanceCalls}
-use Rattle.llc_rule.proofs.Applied.{whose-first, whose-second, whose-second-then, whose-first-then, secondRequest, is-request, asked, is-accepted, four-times, answers, fourth, fourth-asks, fourth-accepted, answers-parts}
+use Rattle.llc_rule.proofs.Applied.{whose-first, whose-second, whose-second-then, whose-first-then, secondRequest, is-request, asked, is-accepted, four-times, answers, answers-are, fourth, fourth-asks, fourth-accepted, answers-parts}
 use Rattle.llc_runs.specs.Runs.{Lent, Station, begin, left, exchange, run, after}
 use Rattle.llc_runs.specs.Claim.{linkAt, receiptsAfter, whoseAfter}
 use Rattle.llc_runs.specs.Heard.{putTo}
@@ -119,9 +119,12 @@ past-lents : past second nobody (run (begin zeroStore) lents) ≡ past second no
 past-lents =
     past-is zeroStore lents second nobody ∙ ap (λ (x : List (List ℕ)). past second nobody (Rule.run new x)) lents-put
 
-pub four-by-rule-lents : AtMostFour secondRequest (sendings 0x22 (drop 4 answers))
+pub four-by-rule-lents :
+    AtMostFour secondRequest
+    (sendings 0x22 (drop 4 (ruleRun atFirst (calls (past second nobody (run (begin zeroStore) lents))))))
 four-by-rule-lents =
-    claim .fourByRule zeroStore lents unhindered-lents second .each (take 3 answers) fourth (drop 4 answers) secondRequest
+    rw (past-lents, answers-are)
+    (claim .fourByRule zeroStore lents unhindered-lents second .each (take 3 answers) fourth (drop 4 answers) secondRequest
     (ap (λ (es : List Exchange). ruleRun atFirst (calls es)) past-lents ∙ answers-parts)
     fourth-accepted
-    fourth-asks
+    fourth-asks)

@@ -267,7 +267,20 @@ where-marked :
     → All (MarkedWhereTransmitted (linkAt (after (begin store) cs) .receipts)) (linkAt (after (begin store) cs) .acknowledged)
 where-marked store cs =
     subst (λ (l : Link). All (MarkedWhereTransmitted (l .receipts)) (l .acknowledged)) (sym (as-step store cs .link))
-    (where-transmitted .each (putTo store cs))
+    (where-transmitted .onLink (putTo store cs))
+
+where-by-rule :
+    (store : List ℕ) (cs : List Lent)
+    → unhindered (run (begin store) cs) ≡ true
+    → (a : ℕ)
+    → All
+    (MarkedWhereTransmitted (ruleAfter atFirst (calls (past a nobody (run (begin store) cs))) .receipts))
+    (ruleAfter atFirst (calls (past a nobody (run (begin store) cs))) .acknowledged)
+where-by-rule store cs u a =
+    subst
+    (λ (es : List Exchange). All (MarkedWhereTransmitted (ruleAfter atFirst (calls es) .receipts)) (ruleAfter atFirst (calls es) .acknowledged))
+    (sym (past-is store cs a nobody))
+    (where-transmitted .byRule (putTo store cs) (sym (unhindered-is store cs) ∙ u) a)
 
 -- A request that is accepted was lent what is right.
 pub sendings-are :
@@ -339,6 +352,7 @@ claim =
       oneUnderWay = one-by-rule;
       oneInState = one-in-state;
       whereTransmitted = where-marked;
+      whereTransmittedByRule = where-by-rule;
       four = four;
       fourByRule = four-by-rule;
     }

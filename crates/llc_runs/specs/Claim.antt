@@ -114,6 +114,13 @@ pub record Claim : Type 0 where
   pub whereTransmitted :
       (store : List ℕ) (cs : List Lent)
       → All (MarkedWhereTransmitted (linkAt (after (begin store) cs) .receipts)) (linkAt (after (begin store) cs) .acknowledged)
+  pub whereTransmittedByRule :
+      (store : List ℕ) (cs : List Lent)
+      → unhindered (run (begin store) cs) ≡ true
+      → (a : ℕ)
+      → All
+      (MarkedWhereTransmitted (ruleAfter atFirst (calls (past a nobody (run (begin store) cs))) .receipts))
+      (ruleAfter atFirst (calls (past a nobody (run (begin store) cs))) .acknowledged)
   -- Of every request that is accepted, after any calls and before any calls, at most four sendings, all the same.
   pub four :
       (store : List ℕ) (before : List Lent) (c : Lent) (r : Request) (later : List Lent)

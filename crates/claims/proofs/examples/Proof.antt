@@ -5,6 +5,7 @@ use Rattle.examples.proofs.Examples as Examples
 returns : tie.Need-returns
 returns c = record {
   examples = Examples.examples;
+  all-rows = Examples.all-rows;
 }
 
 pub examples-spec : {M : Type 1} → statement M

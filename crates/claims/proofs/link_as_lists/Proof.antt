@@ -30,6 +30,7 @@ returns c = record {
   four-instance = Applied.four-instance;
   four-times = Applied.four-times;
   four-by-rule = Applied.four-by-rule;
+  answers-are = Applied.answers-are;
   four-times-by-rule = Applied.four-times-by-rule;
   sound-run = SoundCalls.sound-run;
   determined = Records.determined;
