@@ -27,6 +27,15 @@ impl TetraAddress {
         Ok(TetraAddress { ssi, ssi_type })
     }
 
+    /// The address with this SSI and the number of its type; the engine has no SSI over 24 bits and no type but 1 and 2.
+    pub(crate) fn from_raw(ssi: u32, ssi_type: u8) -> TetraAddress {
+        let ssi_type = match ssi_type {
+            1 => SsiType::Issi,
+            _ => SsiType::Gssi,
+        };
+        TetraAddress { ssi, ssi_type }
+    }
+
     /// The SSI.
     pub fn ssi(self) -> u32 {
         self.ssi

@@ -1,7 +1,7 @@
 //! The link.
 use crate::call::Call;
 use crate::engine::Engine;
-use crate::{Frame, Receipt, Records, Refused, Report, Request, TdmaTime, TxState};
+use crate::{AckDue, AcknowledgedMessage, Frame, Message, Receipt, Records, Refused, Report, Request, TdmaTime, TxState};
 use std::fmt;
 
 /// The basic link of a base station.
@@ -133,6 +133,26 @@ impl Link {
     /// How many acknowledgements are due; at most 64.
     pub fn scheduled_out_acks(&self) -> usize {
         self.memory.engine.state().n_acks
+    }
+
+    /// The acknowledged messages that it holds, in the queue's order.
+    pub fn messages(&self) -> impl Iterator<Item = AcknowledgedMessage<'_>> {
+        let state = self.memory.engine.state();
+        state.outbound_messages[..state.n_messages]
+            .iter()
+            .map(AcknowledgedMessage::from_raw)
+    }
+
+    /// The unacknowledged messages that wait for the next tick end, in the queue's order.
+    pub fn udata_messages(&self) -> impl Iterator<Item = Message<'_>> {
+        let state = self.memory.engine.state();
+        state.outbound_udata_messages[..state.n_udata].iter().map(Message::from_raw)
+    }
+
+    /// The acknowledgements that are due, the oldest first.
+    pub fn acks_due(&self) -> impl Iterator<Item = AckDue> {
+        let state = self.memory.engine.state();
+        state.scheduled_out_acks[..state.n_acks].iter().map(AckDue::from_raw)
     }
 
     /// How many SSIs have a send sequence variable V(S); at most 256 until the next start.

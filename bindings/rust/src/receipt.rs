@@ -37,6 +37,18 @@ pub struct Receipt {
     pub expects_ack: bool,
 }
 
+impl Receipt {
+    /// Can its mark stay as it is? Discarded can, and changes all the same while the link holds the message
+    /// ([`Link::messages`](crate::Link::messages)) and may send it again.
+    pub fn is_in_final_state(self) -> bool {
+        match self.state {
+            TxState::Pending => false,
+            TxState::Transmitted => !self.expects_ack,
+            TxState::Discarded | TxState::Lost | TxState::Acknowledged => true,
+        }
+    }
+}
+
 /// What the lower layer did with a message, for [`Link::report`](crate::Link::report).
 #[derive(Clone, Copy, Debug, PartialEq, Eq)]
 #[repr(u8)]

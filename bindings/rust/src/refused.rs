@@ -9,6 +9,9 @@ pub struct Refused {
 }
 
 impl Refused {
+    /// The refusal of what is no call: question 2. A line of text that spells no bytes gets it without the engine.
+    pub const NO_CALL: Refused = Refused { number: 2 };
+
     /// The number of the first question that the call fails.
     pub fn number(self) -> u8 {
         self.number

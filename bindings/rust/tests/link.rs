@@ -291,6 +291,7 @@ fn the_questions_are_document_01s() {
             .question()
             .starts_with("Do the outer length")
     );
+    assert_eq!(link.call(&[]).unwrap_err(), Refused::NO_CALL);
 }
 
 #[test]
