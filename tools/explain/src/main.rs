@@ -1,5 +1,7 @@
 //! Runs the link on calls, as the runner does, and prints the run for people: each call in words, its number with its question, its
 //! records field by field, and what the link holds then. Standard input has a call a line, in hexadecimal digits.
+#![forbid(unsafe_code)]
+
 use crate::answers::Run;
 use crate::lines::{Ended, Line};
 use std::io::{self, ErrorKind, Read, Write};
