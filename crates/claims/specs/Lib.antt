@@ -10,5 +10,4 @@ pub mod Calls
 pub mod Records
 pub mod StateAndStore
 pub mod Text
-pub mod Words
 pub mod Examples

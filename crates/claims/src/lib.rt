@@ -13,7 +13,6 @@ ghost use Rattle.claims.specs.Calls.{Calls};
 ghost use Rattle.claims.specs.Records.{Records};
 ghost use Rattle.claims.specs.StateAndStore.{StateAndStore};
 ghost use Rattle.claims.specs.Text.{Text};
-ghost use Rattle.claims.specs.Words.{Words};
 ghost use Rattle.claims.specs.Examples.{Examples};
 
 /// Runs of the entry point.
@@ -74,11 +73,6 @@ pub fn state_and_store()
 /// Text.
 pub fn text()
     ensures { λ r. ⌜ Text ⌝ }
-{}
-
-/// A run for people.
-pub fn words()
-    ensures { λ r. ⌜ Words ⌝ }
 {}
 
 /// Document 01's examples.

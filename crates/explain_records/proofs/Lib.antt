@@ -1,4 +1,0 @@
-pub mod Numbers
-pub mod Walked
-pub mod Lines
-pub mod Examples
