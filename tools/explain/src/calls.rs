@@ -6,9 +6,11 @@ use crate::words::Carrier;
 use std::fmt::{Display, Formatter, Result};
 use wipturay::Refused;
 
-/// The bytes of a call, and how the engine refused it.
+/// A call of any bytes, with the engine's answer.
 pub struct CallWords<'a> {
+    /// The bytes.
     pub bytes: &'a [u8],
+    /// The refusal, if there is one.
     pub refused: Option<Refused>,
 }
 

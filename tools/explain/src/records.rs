@@ -31,10 +31,12 @@ fn kind_words(kind: Kind) -> (&'static str, fn(&mut Formatter<'_>, Bits<'_>) -> 
     }
 }
 
+/// The bits of a frame to be sent.
 fn put_pdu(f: &mut Formatter<'_>, bits: Bits<'_>) -> Result {
     write!(f, ", {}", Pdu(bits))
 }
 
+/// The bits that go up.
 fn put_sdu(f: &mut Formatter<'_>, bits: Bits<'_>) -> Result {
     write!(f, ", SDU of {}", Packed::new(bits.iter()))
 }

@@ -35,7 +35,9 @@ impl Display for Whose {
 
 /// An address.
 pub struct Address {
+    /// Its SSI.
     pub ssi: u32,
+    /// The number of its type.
     pub ssi_type: u8,
 }
 
