@@ -5,6 +5,7 @@ use mathlib.Core.Bool.{true}
 use mathlib.Core.List.{List, [], _∷_}
 use lib.Dec.{eqb}
 use lib.ListN.{drop, length}
+use Rattle.llc_rule.specs.Limits.{outputBytes}
 use Rattle.llc_rule.specs.Lists.{all}
 use Rattle.llc_rule.specs.Rule.{atFirst}
 use Rattle.llc_rule.specs.Claim.{Demand3, OneUnderWay, SeesTheSame, Swap, WhereTransmitted, calls, ruleRun, unhindered}
@@ -75,6 +76,6 @@ pub record LinkAsLists : Type 0 where
   pub length-indication :
       (k : ℕ) (i : Indication) → length (indicationBytes k i) ≡ 35 + length (i .block) + sizeIfAny (i .sdu)
   -- A call's records take at most 46,656 bytes; the second hypothesis holds after every run.
-  pub room : (l : Link) → Within l → Small l → (c : List ℕ) → length (allBytes (given (step l c))) ≤ 46656
+  pub room : (l : Link) → Within l → Small l → (c : List ℕ) → length (allBytes (given (step l c))) ≤ outputBytes
   pub new-small : Small new
   pub small-after : (l : Link) → Small l → (cs : List (List ℕ)) → Small (after l cs)

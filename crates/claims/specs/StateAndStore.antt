@@ -8,6 +8,7 @@ use lib.ListN.{length, take}
 use Rattle.bits.specs.Bits.{part, splice}
 use Rattle.tdma_time.specs.Slots.{valid}
 use Rattle.tdma_time.specs.declared.TdmaTime.{TdmaTime}
+use Rattle.llc_rule.specs.Limits.{placeBits, storeBytes, storePlaces}
 use Rattle.llc_rule.specs.Link.{new, startedWith, withTime}
 use Rattle.llc_rule.specs.Step.{step}
 use Rattle.llc_rule.specs.Sound.{All}
@@ -38,35 +39,35 @@ pub record StateAndStore : Type 0 where
   -- What a call on a state and a store gives, as a link, is what `step` gives on the link that they hold.
   pub steps-in : (s : State) (store : List ℕ) → Ready s store → (bytes : List ℕ) → keptIn (steps s store bytes) ≡ step (linkIn s store) bytes
   -- The arrays have their lengths in every state that the code has (`lengths` of llc_state).
-  pub ready : (s : State) (store : List ℕ) → Lengths s → inRange s ≡ true → length store ≡ 8 * 32256 → Ready s store
+  pub ready : (s : State) (store : List ℕ) → Lengths s → inRange s ≡ true → length store ≡ 8 * storeBytes → Ready s store
   -- What a call of any bytes leaves of a state and a store that passed question 1 passes it.
   pub steps-sane :
       (s : State) (store bytes : List ℕ)
       → All (λ (b : ℕ). b < 256) bytes
       → Sane s store
       → SaneAfter (steps s store bytes)
-  pub new-sane : (store : List ℕ) → length store ≡ 8 * 32256 → Sane newState store
+  pub new-sane : (store : List ℕ) → length store ≡ 8 * storeBytes → Sane newState store
   -- The place that a new message takes is in the store, and no held message has it.
   pub free-place :
       (s : State)
-      → length (take (s .«n_messages») (s .«outbound_messages»)) + length (take (s .«n_udata») (s .«outbound_udata_messages»)) ≤ 95
-      → (freePlace s < 96)
+      → length (take (s .«n_messages») (s .«outbound_messages»)) + length (take (s .«n_udata») (s .«outbound_udata_messages»)) < storePlaces
+      → (freePlace s < storePlaces)
       × All (λ (e : Entry). eqb (e .place) (freePlace s) ≡ false) (take (s .«n_messages») (s .«outbound_messages»))
       × All (λ (e : Entry). eqb (e .place) (freePlace s) ≡ false) (take (s .«n_udata») (s .«outbound_udata_messages»))
   -- A frame that was put into a place is read there.
   pub part-there :
       (store : List ℕ) (p : ℕ) (vs : List ℕ)
-      → length store ≡ 8 * 32256
-      → p < 96
-      → length vs ≤ 2688
+      → length store ≡ 8 * storeBytes
+      → p < storePlaces
+      → length vs ≤ placeBits
       → part (splice store (placeBit p) vs) (placeBit p) (length vs) ≡ vs
   -- The frame of a message in another place is as it was.
   pub frame-elsewhere :
       (store : List ℕ) (p : ℕ) (vs : List ℕ) (e : Entry)
-      → length store ≡ 8 * 32256
-      → p < 96
-      → e .place < 96
+      → length store ≡ 8 * storeBytes
+      → p < storePlaces
+      → e .place < storePlaces
       → eqb (e .place) p ≡ false
-      → length vs ≤ 2688
-      → e .len ≤ 2688
+      → length vs ≤ placeBits
+      → e .len ≤ placeBits
       → frameIn (splice store (placeBit p) vs) e ≡ frameIn store e

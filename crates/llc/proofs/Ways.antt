@@ -10,6 +10,7 @@ use lib.ListN.{length, drop, length-append}
 use Rattle.bits.specs.Bits.{bits}
 use Rattle.bits.proofs.Laws.{length-bits}
 use Rattle.questions.specs.Outcome.{Outcome, accepted, refused}
+use Rattle.llc_rule.specs.Limits.{outputBytes, storeBytes}
 use Rattle.llc_rule.specs.Calls as Rule
 use Rattle.llc_rule.specs.Calls.{Call, parsed}
 use Rattle.llc_rule.specs.Ranges as RuleRanges
@@ -99,14 +100,14 @@ unfolding questionOf
 through-tells d started h = through-by (unreadOf d) (startsOf d || started) (inRangeOf d) (eq-eqb _ 0 h)
 
 -- As many bytes as asked for are eight times as many bits.
-pub lent-bits : (store out : List ℕ) → eqb (length store) 32256 && leb 46656 (length out) ≡ lentRight (bits store) out
+pub lent-bits : (store out : List ℕ) → eqb (length store) storeBytes && leb outputBytes (length out) ≡ lentRight (bits store) out
 unfolding lentRight
 lent-bits store out =
     let long : length (bits store) ≡ 8 * length store = length-bits store in
-    ap (λ (b : Bool). b && leb 46656 (length out))
-    (by-test (eqb (length store) 32256)
-    (λ e. let n = eqb-true (length store) 32256 e in e ∙ sym (eq-eqb (length (bits store)) (8 * 32256) (omega arith)))
-    (λ e. let n = eqb-false (length store) 32256 e in e ∙ sym (ne-eqb (length (bits store)) (8 * 32256) (λ k. n (omega arith)))))
+    ap (λ (b : Bool). b && leb outputBytes (length out))
+    (by-test (eqb (length store) storeBytes)
+    (λ e. let n = eqb-true (length store) storeBytes e in e ∙ sym (eq-eqb (length (bits store)) (8 * storeBytes) (omega arith)))
+    (λ e. let n = eqb-false (length store) storeBytes e in e ∙ sym (ne-eqb (length (bits store)) (8 * storeBytes) (λ k. n (omega arith)))))
 
 -- The number of the first of questions 2 to 5 that is failed.
 module _ (d : Decoded) (started : Bool) where
@@ -135,19 +136,19 @@ module _ (d : Decoded) (started : Bool) where
       ∙ first-asked e h
 
 -- What question 1 tells of the lengths.
-lent-tells : (store out : List ℕ) → lentRight (bits store) out ≡ true → (length store ≡ 32256) × (46656 ≤ length out)
+lent-tells : (store out : List ℕ) → lentRight (bits store) out ≡ true → (length store ≡ storeBytes) × (outputBytes ≤ length out)
 unfolding lentRight
 lent-tells store out h =
-    let t = both {x = eqb (length (bits store)) (8 * 32256)} {y = leb 46656 (length out)} h in
+    let t = both {x = eqb (length (bits store)) (8 * storeBytes)} {y = leb outputBytes (length out)} h in
     let long : length (bits store) ≡ 8 * length store = length-bits store in
-    let n = eqb-true (length (bits store)) (8 * 32256) (t .0) in
-    (omega arith, leb-true 46656 (length out) (t .1))
+    let n = eqb-true (length (bits store)) (8 * storeBytes) (t .0) in
+    (omega arith, leb-true outputBytes (length out) (t .1))
 
 -- What is known once a call has passed questions 1 to 5.
 pub record Passed (s : State) (store out bytes : List ℕ) (d : Decoded) : Type 0 where
   pub state : inRange s ≡ true
-  pub places : length store ≡ 32256
-  pub room : 46656 ≤ length out
+  pub places : length store ≡ storeBytes
+  pub room : outputBytes ≤ length out
   pub on : startsOf d || s .started ≡ true
   pub values : inRangeOf d ≡ true
   pub inside : Inside d bytes

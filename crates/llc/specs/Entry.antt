@@ -5,6 +5,7 @@ use mathlib.Core.List.{List}
 use lib.Dec.{eqb, leb}
 use lib.ListN.{length}
 use Rattle.questions.specs.Outcome.{Outcome, ask}
+use Rattle.llc_rule.specs.Limits.{outputBytes, storeBytes}
 use Rattle.llc_state.specs.Ranges.{inRange}
 use Rattle.llc_state.specs.declared.State.{State}
 use Rattle.llc_steps.specs.States.{Kept}
@@ -14,7 +15,7 @@ use Rattle.llc_steps.specs.Steps.{steps}
 -- "1. Is the store 32,256 bytes and the output at least 46,656, and every count and value in the state handed in within its
 -- range?" The store is given by its bits.
 unfoldable pub lentRight : List ℕ → List ℕ → Bool
-lentRight store out = eqb (length store) (8 * 32256) && leb 46656 (length out)
+lentRight store out = eqb (length store) (8 * storeBytes) && leb outputBytes (length out)
 
 -- All questions, and what an accepted call leaves and gives.
 unfoldable pub answered : State → List ℕ → List ℕ → List ℕ → Outcome Kept

@@ -12,12 +12,14 @@ use llc_frames::rx_tma_report_ind;
 use llc_frames::rx_tma_unitdata_ind;
 use llc_requests::rx_tla_tldata_req_bl;
 use llc_requests::rx_tla_tlunitdata_req_bl;
+use llc_state::PLACE_BYTES;
+use llc_state::STORE_PLACES;
 use llc_state::State;
 use llc_steps::Answer;
 use llc_tick_end::tick_end;
 
 /// How many bytes the store has.
-pub const STORE: usize = 32_256;
+pub const STORE: usize = STORE_PLACES * PLACE_BYTES;
 
 /// How many bytes an output has at least.
 pub const OUTPUT: usize = 46_656;

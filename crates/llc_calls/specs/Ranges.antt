@@ -3,6 +3,8 @@ use Prim.Native.Nat.{_/_, _%_}
 use mathlib.Core.Bool.{Bool, true, false, not, _&&_, _||_}
 use lib.Dec.{eqb, leb, ltb}
 use Rattle.tdma_time.specs.Slots.{valid}
+use Rattle.llc_pdus.specs.Writes.{longest}
+use Rattle.llc_rule.specs.Limits.{longestFrame}
 use Rattle.llc_rule.specs.Ranges.{isType, isReceipt}
 use Rattle.llc_calls.specs.declared.RequestCall.{RequestCall}
 use Rattle.llc_calls.specs.declared.FrameCall.{FrameCall}
@@ -19,10 +21,10 @@ requestRange q =
     && (eqb (q .flags / 4 % 2) 1 || eqb (q .mask) 0)
     && isReceipt (q .receipt)
     && leb (q .«block_len») 64
-    && leb (q .«sdu_len») 2595
+    && leb (q .«sdu_len») longest
 
 unfoldable pub frameRange : FrameCall → Bool
-frameRange f = isType (f .«ssi_type») && leb (f .«block_len») 64 && leb (f .«pdu_len») 2633
+frameRange f = isType (f .«ssi_type») && leb (f .«block_len») 64 && leb (f .«pdu_len») longestFrame
 
 -- What is no call is not in range.
 unfoldable pub inRangeOf : Decoded → Bool

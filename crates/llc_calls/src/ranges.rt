@@ -4,6 +4,10 @@ ghost use Rattle.llc_calls.specs.Ranges.{inRangeOf, requestRange, frameR
 use crate::Decoded;
 use crate::FrameCall;
 use crate::RequestCall;
+use llc_pdus::N251_BL_MAX_TLSDU_LEN_BITS;
+
+// The longest frame that comes in, in bits.
+const LONGEST_FRAME: usize = 2633;
 
 /// Are the values of a call in range? No for what is no call.
 pub fn in_range(call: Decoded) -> bool
@@ -35,12 +39,12 @@ fn request_in_range(q: RequestCall) -> bool
         & ((q.flags / 4 % 2 == 1) | (q.mask == 0))
         & (q.receipt < 128)
         & (q.block_len <= 64)
-        & (q.sdu_len <= 2595)
+        & (q.sdu_len <= N251_BL_MAX_TLSDU_LEN_BITS)
 }
 
 // Type, block and PDU.
 fn frame_in_range(f: FrameCall) -> bool
     ensures { λ r. ⌜ r ≡ frameRange f ⌝ }
 {
-    ((f.ssi_type == 1) | (f.ssi_type == 2)) & (f.block_len <= 64) & (f.pdu_len <= 2633)
+    ((f.ssi_type == 1) | (f.ssi_type == 2)) & (f.block_len <= 64) & (f.pdu_len <= LONGEST_FRAME)
 }

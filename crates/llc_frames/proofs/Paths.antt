@@ -17,6 +17,7 @@ use Rattle.llc_pdus.specs.Sdus.{sduAt, holding, handed, Part, numbered, handedB
 use Rattle.llc_pdus.specs.declared.Pdu.{Pdu}
 use Rattle.llc_pdus.specs.declared.Sdu.{Sdu}
 use Rattle.llc_pdus.proofs.Holding.{held-is, handed-in}
+use Rattle.llc_rule.specs.Limits.{outputBytes}
 use Rattle.llc_rule.specs.Lists.{Found, nothing, first}
 use Rattle.llc_rule.specs.Received.{Received, received, nsOf, nrOf, upward}
 use Rattle.llc_rule.specs.Records.{Record, allBytes}
@@ -169,7 +170,7 @@ module _
         → answered (frameOf f b) (nrOf p) (scheduled (frameOf f b) (nsOf p) s) s ≡ t
         → frameRange f ≡ true
         → SduLent l place len
-        → 46656 ≤ length out
+        → outputBytes ≤ length out
         → r ≡ answer 0 t k
         → Wrote out 0 (allBytes (upward (frameOf f b) p sdu)) m k
         → WithAnyStore r m s out outcome
@@ -193,7 +194,7 @@ module _
         → t ≡ withAcks s (dueTo f (nsIn n) s)
         → frameRange f ≡ true
         → SduLent l place len
-        → 46656 ≤ length out
+        → outputBytes ≤ length out
         → r ≡ answer 0 t k
         → Wrote out 0 (allBytes (upward (frameOf f b) p sdu)) m k
         → WithAnyStore r m s out outcome
@@ -233,7 +234,7 @@ module _
           → t ≡ answeredAt (n .nr) (foundAt i (messagesOf next)) next
           → frameRange f ≡ true
           → SduLent l place len
-          → 46656 ≤ length out
+          → outputBytes ≤ length out
           → r ≡ answer 0 t k
           → Wrote out 0 (allBytes (upward (frameOf f b) p sdu)) m k
           → WithAnyStore r m s out outcome

@@ -12,6 +12,7 @@ use Rattle.bits.specs.Bits.{bits, part}
 use Rattle.bits.proofs.Laws.{length-bits, length-part}
 use Rattle.llc_pdus.specs.declared.Pdu.{Pdu}
 use Rattle.llc_pdus.specs.declared.Pdu.the-variants.{BlAdata, BlData, BlUdata, BlAck}
+use Rattle.llc_rule.specs.Limits.{longestFrame, outputBytes}
 use Rattle.llc_rule.specs.Calls.{Frame}
 use Rattle.llc_rule.specs.Ranges.{isType}
 use Rattle.llc_rule.specs.Received.{upward}
@@ -60,7 +61,7 @@ none-up f (b ∷ sdu) c nr h = absurd (omega (arith, h))
 pub up-size :
     (f : Frame) (p : Pdu) (sdu : List ℕ)
     → length (f .block) ≤ 64
-    → length sdu ≤ 2633
+    → length sdu ≤ longestFrame
     → length (allBytes (upward f p sdu)) ≤ 434
 up-size f (BlAdata c nr ns) sdu hb hs = rw (adata-up f sdu c nr ns) (small-indication 4 (sentUp f (f .link) c sdu) hb hs)
 up-size f (BlData c ns) sdu hb hs = rw (data-up f sdu c ns) (small-indication 4 (sentUp f (f .link) c sdu) hb hs)
@@ -70,11 +71,11 @@ up-size f (BlAck c nr) (b ∷ sdu) hb hs =
     rw (ack-up f (b ∷ sdu) c nr (omega arith)) (small-indication 4 (sentUp f 0 c (b ∷ sdu)) hb hs)
 
 -- What question 5 says of the lengths of a frame.
-pub frame-small : (f : FrameCall) → frameRange f ≡ true → (f .«block_len» ≤ 64) × (f .«pdu_len» ≤ 2633)
+pub frame-small : (f : FrameCall) → frameRange f ≡ true → (f .«block_len» ≤ 64) × (f .«pdu_len» ≤ longestFrame)
 unfolding frameRange
 frame-small f h =
-    let e = both {x = isType (f .«ssi_type») && leb (f .«block_len») 64} {y = leb (f .«pdu_len») 2633} h in
-    (leb-true (f .«block_len») 64 (both {x = isType (f .«ssi_type»)} {y = leb (f .«block_len») 64} (e .0) .1), leb-true (f .«pdu_len») 2633 (e .1))
+    let e = both {x = isType (f .«ssi_type») && leb (f .«block_len») 64} {y = leb (f .«pdu_len») longestFrame} h in
+    (leb-true (f .«block_len») 64 (both {x = isType (f .«ssi_type»)} {y = leb (f .«block_len») 64} (e .0) .1), leb-true (f .«pdu_len») longestFrame (e .1))
 
 -- The bytes from a place on, as they are lent.
 pub lent : (b : List ℕ) (at : ℕ) → take (length b - at) (drop at b) ≡ drop at b
@@ -111,7 +112,7 @@ module _ (f : FrameCall) (b : List ℕ) (inside : FrameInside f b) (l : List ℕ
   pub asks-sdu :
       (kind link : ℕ) (fcs : Bool) (n : ℕ)
       → frameRange f ≡ true
-      → 46656 ≤ n
+      → outputBytes ≤ n
       → (f .«block_len» < 2 ^ 16)
       × ((f .block + f .«block_len» ≤ length b)
       × ((len < 2 ^ 16)

@@ -3,6 +3,7 @@ use Prim.Native.Nat.{ℕ, _+_, _*_, _≤_, _<_}
 use mathlib.Core.Bool.{Bool}
 use mathlib.Core.List.{List}
 use lib.ListN.{length}
+use Rattle.llc_rule.specs.Limits.{longestFrame}
 use Rattle.llc_rule.specs.Calls.{Frame}
 use Rattle.llc_rule.specs.Records.{Indication}
 
@@ -15,4 +16,4 @@ sentUp f link fcs sdu =
 pub record SduLent (sdu : List ℕ) (place n : ℕ) : Type 0 where
   pub inside : place + n ≤ 8 * length sdu
   pub early : place < 8
-  pub short : n ≤ 2633
+  pub short : n ≤ longestFrame

@@ -7,6 +7,7 @@ ghost use lib.ListN.{length};
 ghost use Rattle.bits.specs.Bits.{bits, part};
 ghost use Rattle.questions.specs.Outcome.{accepted};
 ghost use Rattle.tdma_time.specs.Slots.{valid};
+ghost use Rattle.llc_rule.specs.Limits.{outputBytes};
 ghost use Rattle.llc_rule.specs.Lists.{all};
 ghost use Rattle.llc_rule.specs.Messages.{slotBefore};
 ghost use Rattle.llc_rule.specs.Received.{received, nsOf, nrOf, upward};
@@ -103,7 +104,7 @@ fn put_sdu(
     place: usize,
     len: usize,
 ) -> usize
-    requires { ⌜ 46656 ≤ length (now out) ⌝ }
+    requires { ⌜ outputBytes ≤ length (now out) ⌝ }
     requires { ⌜ frameRange f ≡ true ⌝ }
     requires { ⌜ FrameInside f (now bytes) ⌝ }
     requires { ⌜ SduLent (now sdu) place len ⌝ }
@@ -141,7 +142,7 @@ fn put_upward(
     place: usize,
     len: usize,
 ) -> usize
-    requires { ⌜ 46656 ≤ length (now out) ⌝ }
+    requires { ⌜ outputBytes ≤ length (now out) ⌝ }
     requires { ⌜ frameRange f ≡ true ⌝ }
     requires { ⌜ FrameInside f (now bytes) ⌝ }
     requires { ⌜ SduLent (now sdu) place len ⌝ }
@@ -239,7 +240,7 @@ fn rx_tma_unitdata_ind_bl(
     len: usize,
 ) -> Answer
     requires { ⌜ inRange state ≡ true ⌝ }
-    requires { ⌜ 46656 ≤ length (now out) ⌝ }
+    requires { ⌜ outputBytes ≤ length (now out) ⌝ }
     requires { ⌜ frameRange f ≡ true ⌝ }
     requires { ⌜ FrameInside f (now bytes) ⌝ }
     requires { ⌜ SduLent (now sdu) place len ⌝ }
@@ -266,7 +267,7 @@ fn rx_tma_unitdata_ind_bl(
 /// A frame: what goes up of it is taken from the part that the reader hands back.
 pub fn rx_tma_unitdata_ind(state: State, out: &mut [u8], f: FrameCall, bytes: &[u8]) -> Answer
     requires { ⌜ inRange state ≡ true ⌝ }
-    requires { ⌜ 46656 ≤ length (now out) ⌝ }
+    requires { ⌜ outputBytes ≤ length (now out) ⌝ }
     requires { ⌜ frameRange f ≡ true ⌝ }
     requires { ⌜ FrameInside f (now bytes) ⌝ }
     requires { ⌜ state .started ≡ true ⌝ }

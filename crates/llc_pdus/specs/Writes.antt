@@ -7,12 +7,19 @@ use lib.ListN.{length}
 use Rattle.bits.specs.Bits.{part, splice}
 use Rattle.questions.specs.Outcome.{accepted}
 use Rattle.questions.specs.Effect.{Effect, effect, asked}
-use Rattle.llc_pdus.specs.Headers.{header}
+use Rattle.llc_pdus.specs.Headers.{header, Kind, adata, lengthOf}
 use Rattle.llc_pdus.specs.declared.Pdu.{Pdu}
 
 -- "The SDU, at most 2,595 bits outgoing."
 abbrev pub longest : ℕ
 longest = 2595
+
+-- The most bits of a frame that is sent with a header of a type, and of any frame that is sent.
+abbrev pub longestOf : Kind → ℕ
+longestOf k = lengthOf k + longest
+
+abbrev pub longestSent : ℕ
+longestSent = longestOf adata
 
 -- The frame of a PDU with n bits of s from a place on as its SDU.
 abbrev pub frame : Pdu → List ℕ → ℕ → ℕ → List ℕ

@@ -9,6 +9,7 @@ use borrow.Author.Tests.{eqb-true, eqb-false, eq-eqb, ne-eqb, lt-ltb, le-ltb}
 use lib.Dec.{eqb}
 use lib.ListN.{length, getD, take, set, replicate, length-set, length-replicate, getD-replicate}
 use lib.Seq.{take-suc, take-all}
+use Rattle.llc_rule.specs.Limits.{storePlaces}
 use Rattle.llc_rule.specs.Lists.{any, among}
 use Rattle.llc_rule.proofs.Lists.{by-test, any-append, getD-set}
 use Rattle.llc_state.specs.declared.Entry.{Entry}
@@ -16,21 +17,21 @@ use Rattle.llc_steps.specs.Places.{firstFree}
 use Rattle.llc_steps.specs.Queues.{position}
 use Rattle.llc_queues.proofs.Search.{position-any}
 
--- The places that are in a list are marked, of 96.
+-- The places that are in a list are marked, of those of the store.
 pub record Marked (us : List ℕ) (used : List Bool) : Type 0 where
-  pub size : length used ≡ 96
-  pub marks : (q : ℕ) → q < 96 → getD used q false ≡ among q us
+  pub size : length used ≡ storePlaces
+  pub marks : (q : ℕ) → q < storePlaces → getD used q false ≡ among q us
 
-pub unmarked : Marked [] (replicate 96 false)
+pub unmarked : Marked [] (replicate storePlaces false)
 unfolding any
-unmarked = record { size = length-replicate 96 false; marks = λ q h. getD-replicate 96 q false false h }
+unmarked = record { size = length-replicate storePlaces false; marks = λ q h. getD-replicate storePlaces q false false h }
 
--- A place more in the list: it is marked where it is one of the 96.
+-- A place more in the list: it is marked where it is one of the store's.
 among-more : (q x : ℕ) (us : List ℕ) → among q (us ++ (x ∷ [])) ≡ among q us || eqb x q
 unfolding any
 among-more q x us = any-append (λ (k : ℕ). eqb k q) us (x ∷ []) ∙ ap (λ (b : Bool). among q us || b) (or-false (eqb x q))
 
-marked-in : {us : List ℕ} {used : List Bool} → Marked us used → (x : ℕ) → x < 96 → Marked (us ++ (x ∷ [])) (set used x true)
+marked-in : {us : List ℕ} {used : List Bool} → Marked us used → (x : ℕ) → x < storePlaces → Marked (us ++ (x ∷ [])) (set used x true)
 marked-in {us} {used} m x h =
     record {
       size = length-set used x true ∙ m .size;
@@ -43,7 +44,7 @@ marked-in {us} {used} m x h =
           rw (e, among-more, ne-eqb x q (λ d. eqb-false q x e (sym d))) (m .marks q below ∙ sym (or-false (among q us))));
     }
 
-marked-out : {us : List ℕ} {used : List Bool} → Marked us used → (x : ℕ) → 96 ≤ x → Marked (us ++ (x ∷ [])) used
+marked-out : {us : List ℕ} {used : List Bool} → Marked us used → (x : ℕ) → storePlaces ≤ x → Marked (us ++ (x ∷ [])) used
 marked-out {us} m x h =
     record {
       size = m .size;
@@ -80,7 +81,7 @@ places-more :
 places-more us es i d h = rw (take-suc es i d h, map-append, append-assoc)
 
 module _ {us : List ℕ} {k n : ℕ} {es : List Entry} {used : List Bool} {i : ℕ} (m : Marking us k n es used i) where
-  -- A turn over a message whose place is one of the 96, and one over another.
+  -- A turn over a message whose place is one of the store's, and one over another.
   turn :
       (d : Entry) (after : List Bool)
       → i < n
@@ -98,13 +99,13 @@ module _ {us : List ℕ} {k n : ℕ} {es : List Entry} {used : List Bool} {i : �
   pub marks-it :
       (d : Entry) {after : List Bool}
       → i < n
-      → getD es i d .place < 96
+      → getD es i d .place < storePlaces
       → after ≡ set used (getD es i d .place) true
       → Marking us k n es after (i + 1)
   marks-it d {after} h inside e = turn d after h (rw e (marked-in (m .done) (getD es i d .place) inside))
 
   pub passes-it :
-      (d : Entry) {after : List Bool} → i < n → 96 ≤ getD es i d .place → after ≡ used → Marking us k n es after (i + 1)
+      (d : Entry) {after : List Bool} → i < n → storePlaces ≤ getD es i d .place → after ≡ used → Marking us k n es after (i + 1)
   passes-it d {after} h beyond e = turn d after h (rw e (marked-out (m .done) (getD es i d .place) beyond))
 
   -- No turn is left.
@@ -140,24 +141,24 @@ first-unset (false ∷ bs) p us h =
     rw here (sym start)
 
 -- So it is where the search for such a flag ends; none is free where it finds none.
-module _ {us : List ℕ} {used : List Bool} {p : ℕ} (m : Marked us used) (e : p ≡ position not (take 96 used)) where
+module _ {us : List ℕ} {used : List Bool} {p : ℕ} (m : Marked us used) (e : p ≡ position not (take storePlaces used)) where
   at-first : p ≡ position not used
-  at-first = e ∙ ap (position not) (take-all 96 used (omega (arith, m .size)))
+  at-first = e ∙ ap (position not) (take-all storePlaces used (omega (arith, m .size)))
 
-  chosen : firstFree 96 0 us ≡ cond (any not used) (position not used) 0
+  chosen : firstFree storePlaces 0 us ≡ cond (any not used) (position not used) 0
   chosen =
       ap (λ (n : ℕ). firstFree n 0 us) (sym (m .size))
       ∙ first-unset used 0 us
       (λ q below. m .marks q (omega (arith, below, m .size)) ∙ ap (λ (k : ℕ). among k us) (sym (zero-add q)))
       ∙ ap (λ (k : ℕ). cond (any not used) k 0) (zero-add (position not used))
 
-  pub first-free : p < 96 → p ≡ firstFree 96 0 us
+  pub first-free : p < storePlaces → p ≡ firstFree storePlaces 0 us
   first-free h =
       let some : any not used ≡ true =
       position-any not used ∙ lt-ltb (position not used) (length used) (omega (arith, h, at-first, m .size)) in
       at-first ∙ sym (chosen ∙ rw some)
 
-  pub none-free : 96 ≤ p → 0 ≡ firstFree 96 0 us
+  pub none-free : storePlaces ≤ p → 0 ≡ firstFree storePlaces 0 us
   none-free h =
       let none : any not used ≡ false =
       position-any not used ∙ le-ltb (position not used) (length used) (omega (arith, h, at-first, m .size)) in

@@ -7,6 +7,7 @@ ghost use Rattle.llc_steps.specs.Queues.{position, ackOn, rowOf, expectedOn};
 ghost use Rattle.llc_steps.specs.Places.{freePlace};
 ghost use Rattle.llc_steps.specs.Calls.{held, waits as waitsIn};
 use llc_state::LinkSendSeq;
+use llc_state::STORE_PLACES;
 use llc_state::ScheduledOutAck;
 use llc_state::State;
 
@@ -111,11 +112,11 @@ pub fn free_place(state: State) -> usize
     requires { ⌜ state .«n_udata» ≤ 32 ⌝ }
     ensures { λ r. ⌜ r ≡ freePlace state ⌝ }
 {
-    let mut used = [false; 96];
+    let mut used = [false; STORE_PLACES];
     let mut i = 0;
     while i < state.n_messages {
         let place = state.outbound_messages[i].place;
-        if place < 96 {
+        if place < STORE_PLACES {
             used[place] = true;
         }
         i += 1;
@@ -123,13 +124,13 @@ pub fn free_place(state: State) -> usize
     let mut j = 0;
     while j < state.n_udata {
         let place = state.outbound_udata_messages[j].place;
-        if place < 96 {
+        if place < STORE_PLACES {
             used[place] = true;
         }
         j += 1;
     }
     let mut p = 0;
-    while p < 96 {
+    while p < STORE_PLACES {
         if !used[p] {
             return p;
         }

@@ -13,6 +13,8 @@ use Rattle.questions.specs.Outcome.{accepted}
 use Rattle.llc_pdus.specs.Headers.{header}
 use Rattle.llc_pdus.specs.declared.Pdu.{Pdu}
 use Rattle.llc_pdus.specs.declared.Pdu.the-variants.{BlAdata, BlData}
+use Rattle.llc_pdus.specs.Writes.{longest}
+use Rattle.llc_rule.specs.Limits.{storePlaces}
 use Rattle.llc_rule.specs.Lists.{find, others}
 use Rattle.llc_rule.specs.Calls.{Request}
 use Rattle.llc_rule.specs.Ranges.{isType, isReceipt, wantsFcs}
@@ -45,7 +47,7 @@ use Rattle.llc_queues.proofs.Search.{position-most, found-at, found-none, other
 pub record Allowed (q : RequestCall) : Type 0 where
   pub receipt : q .receipt < 128
   pub block : q .«block_len» ≤ 64
-  pub sdu : q .«sdu_len» ≤ 2595
+  pub sdu : q .«sdu_len» ≤ longest
 
 pub allowed : (q : RequestCall) → requestRange q ≡ true → Allowed q
 unfolding requestRange
@@ -58,13 +60,13 @@ allowed q h =
     && ltb (q .mask) 16
     && (eqb (q .flags / 4 % 2) 1 || eqb (q .mask) 0)
     in
-    let sdu = both {y = leb (q .«sdu_len») 2595} h in
+    let sdu = both {y = leb (q .«sdu_len») longest} h in
     let block = both {y = leb (q .«block_len») 64} (sdu .0) in
     let receipt = both {x = others} {y = isReceipt (q .receipt)} (block .0) in
     record {
       receipt = ltb-true (q .receipt) 128 (receipt .1);
       block = leb-true (q .«block_len») 64 (block .1);
-      sdu = leb-true (q .«sdu_len») 2595 (sdu .1);
+      sdu = leb-true (q .«sdu_len») longest (sdu .1);
     }
 
 -- A search in the first n ends at most there.
@@ -72,7 +74,7 @@ pub position-within : {A : Type 0} (p : A → Bool) (n : ℕ) (l : List A) → p
 position-within p n l = omega (arith, position-most p (take n l), length-take n l)
 
 -- A message has a place in the store where a queue has room.
-pub place-below : (s : State) → s .«n_messages» + s .«n_udata» ≤ 95 → freePlace s < 96
+pub place-below : (s : State) → s .«n_messages» + s .«n_udata» < storePlaces → freePlace s < storePlaces
 place-below s h =
     let ms = length-take (s .«n_messages») (s .«outbound_messages») in
     let us = length-take (s .«n_udata») (s .«outbound_udata_messages») in

@@ -12,10 +12,11 @@ use Rattle.questions.specs.Outcome.{accepted}
 use Rattle.questions.specs.Effect.{effect, Effect}
 use Rattle.llc_pdus.specs.Answers.{written}
 use Rattle.llc_pdus.specs.Headers.{header}
-use Rattle.llc_pdus.specs.Writes.{written as writtenOf}
+use Rattle.llc_pdus.specs.Writes.{longest, written as writtenOf}
 use Rattle.llc_pdus.specs.declared.Pdu.{Pdu}
 use Rattle.llc_pdus.proofs.Laws.{header-short}
 use Rattle.llc_pdus.specs.declared.Written.{Written}
+use Rattle.llc_rule.specs.Limits.{placeBytes, storeBytes, storePlaces}
 use Rattle.llc_calls.specs.Decoded.{requestOf, RequestInside}
 use Rattle.llc_calls.specs.declared.RequestCall.{RequestCall}
 use Rattle.llc_calls.proofs.Laws.{bits-length}
@@ -53,13 +54,13 @@ whole xs ys a k vs inside fits e =
 -- What is not too long, is there and has room is written.
 all-written :
     (p : Pdu) (l s : List ℕ) (n : ℕ)
-    → n ≤ 2595
+    → n ≤ longest
     → n ≤ length s
     → length (header p) + n ≤ length l
     → writtenOf p l s 0 n ≡ effect (accepted (length (header p) + n)) (splice l 0 (header p ++ take n s))
 all-written p l s n few there room =
     rw (
-      le-leb n 2595 few,
+      le-leb n longest few,
       le-leb (0 + n) (min (length s) (2 ^ 64 - 1)) (omega arith),
       le-leb (length (header p) + n) (length l) room,
     )
@@ -71,23 +72,23 @@ pub record Put (p : Pdu) (q : RequestCall) (b : List ℕ) (place : ℕ) (before 
 
 pub put :
     (p : Pdu) (q : RequestCall) (b : List ℕ) (place : ℕ) (xs ys : List ℕ) (r : Written)
-    → length xs ≡ 32256
-    → place < 96
-    → q .«sdu_len» ≤ 2595
+    → length xs ≡ storeBytes
+    → place < storePlaces
+    → q .«sdu_len» ≤ longest
     → RequestInside q b
     → effect (written r) (bits ys)
     ≡ writtenOf p
-    (bits (take (place * 336 + 336 - place * 336) (drop (place * 336) xs)))
+    (bits (take (place * placeBytes + placeBytes - place * placeBytes) (drop (place * placeBytes) xs)))
     (bits (take (length b - q .sdu) (drop (q .sdu) b)))
     0
     (q .«sdu_len»)
-    → Put p q b place xs r (take (place * 336) xs ++ (ys ++ drop (place * 336 + 336 - place * 336) (drop (place * 336) xs)))
+    → Put p q b place xs r (take (place * placeBytes) xs ++ (ys ++ drop (place * placeBytes + placeBytes - place * placeBytes) (drop (place * placeBytes) xs)))
 unfolding requestOf
 put p q b place xs ys r long there few inside e =
-    let a : ℕ = place * 336 in
+    let a : ℕ = place * placeBytes in
     let n : ℕ = q .«sdu_len» in
-    let k : ℕ = a + 336 - a in
-    let size : k ≡ 336 = omega arith in
+    let k : ℕ = a + placeBytes - a in
+    let size : k ≡ placeBytes = omega arith in
     let mid : List ℕ = take k (drop a xs) in
     let left : length (drop a xs) ≡ length xs - a = length-drop a xs in
     let room : length (bits mid) ≡ 8 * k =

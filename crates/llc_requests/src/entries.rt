@@ -6,6 +6,8 @@ ghost use mathlib.Core.List.{_++_};
 ghost use lib.ListN.{length};
 ghost use Rattle.bits.specs.Bits.{bits, splice};
 ghost use Rattle.llc_pdus.specs.Headers.{header};
+ghost use Rattle.llc_pdus.specs.Writes.{longest};
+ghost use Rattle.llc_rule.specs.Limits.{storeBytes, storePlaces};
 ghost use Rattle.llc_calls.specs.Decoded.{requestOf, RequestInside};
 ghost use Rattle.llc_state.specs.View.{placeBit};
 ghost use Rattle.llc_steps.specs.Calls.{entryOf};
@@ -14,10 +16,8 @@ use llc_pdus::Pdu;
 use llc_pdus::Written;
 use llc_pdus::to_bitbuf;
 use llc_state::Entry;
+use llc_state::PLACE_BYTES;
 use tdma_time::TdmaTime;
-
-// How many bytes a place of the store has.
-const PLACE: usize = 336;
 
 // The block of a request, with zeros behind it.
 fn block_of(q: RequestCall, bytes: &[u8]) -> [u8; 64]
@@ -79,15 +79,15 @@ pub(crate) fn put_frame(
     q: RequestCall,
     bytes: &[u8],
 ) -> usize
-    requires { ⌜ length (now store) ≡ 32256 ⌝ }
-    requires { ⌜ place < 96 ⌝ }
-    requires { ⌜ q .«sdu_len» ≤ 2595 ⌝ }
+    requires { ⌜ length (now store) ≡ storeBytes ⌝ }
+    requires { ⌜ place < storePlaces ⌝ }
+    requires { ⌜ q .«sdu_len» ≤ longest ⌝ }
     requires { ⌜ RequestInside q (now bytes) ⌝ }
     ensures { λ r. ⌜ bits (now (store .exit)) ≡ splice (bits (now (store .entry))) (placeBit place) (header pdu ++ requestOf q (now (bytes .entry)) .sdu) ⌝ }
     ensures { λ r. ⌜ r ≡ length (header pdu ++ requestOf q (now (bytes .entry)) .sdu) ⌝ }
 {
-    let first = place * PLACE;
-    let end = first + PLACE;
+    let first = place * PLACE_BYTES;
+    let end = first + PLACE_BYTES;
     let sdu = q.sdu;
     match to_bitbuf(pdu, &bytes[sdu..], 0, q.sdu_len, &mut store[first..end]) {
         Written::Bits(len) => len,

@@ -6,6 +6,7 @@ ghost use lib.Dec.{eqb, ltb};
 ghost use lib.ListN.{length, getD, take};
 ghost use Rattle.bits.specs.Bits.{bits};
 ghost use Rattle.questions.specs.Outcome.{accepted};
+ghost use Rattle.llc_rule.specs.Limits.{storeBytes};
 ghost use Rattle.llc_calls.specs.Decoded.{requestOf, RequestInside};
 ghost use Rattle.llc_calls.specs.Ranges.{requestRange};
 ghost use Rattle.llc_pdus.specs.declared.Pdu.the-variants.{BlAdata, BlData};
@@ -76,7 +77,7 @@ fn put_acknowledged(
     row: usize,
 ) -> Answer
     requires { ⌜ inRange state ≡ true ⌝ }
-    requires { ⌜ length (now store) ≡ 32256 ⌝ }
+    requires { ⌜ length (now store) ≡ storeBytes ⌝ }
     requires { ⌜ requestRange q ≡ true ⌝ }
     requires { ⌜ RequestInside q (now bytes) ⌝ }
     requires { ⌜ row ≡ position (rowOf (q .ssi)) (rowsOf state) ⌝ }
@@ -117,7 +118,7 @@ fn put_unacknowledged(
     ack: usize,
 ) -> Answer
     requires { ⌜ inRange state ≡ true ⌝ }
-    requires { ⌜ length (now store) ≡ 32256 ⌝ }
+    requires { ⌜ length (now store) ≡ storeBytes ⌝ }
     requires { ⌜ requestRange q ≡ true ⌝ }
     requires { ⌜ RequestInside q (now bytes) ⌝ }
     requires { ⌜ state .«n_udata» < 32 ⌝ }
@@ -136,7 +137,7 @@ fn put_unacknowledged(
 /// A data request.
 pub fn rx_tla_tldata_req_bl(state: State, store: &mut [u8], q: RequestCall, bytes: &[u8]) -> Answer
     requires { ⌜ inRange state ≡ true ⌝ }
-    requires { ⌜ length (now store) ≡ 32256 ⌝ }
+    requires { ⌜ length (now store) ≡ storeBytes ⌝ }
     requires { ⌜ requestRange q ≡ true ⌝ }
     requires { ⌜ RequestInside q (now bytes) ⌝ }
     ensures { λ r. ⌜ WithAnyOut r (bits (now (store .exit))) state (bits (now (store .entry))) (onData (requestOf q (now (bytes .entry))) state (bits (now (store .entry)))) ⌝ }
@@ -191,7 +192,7 @@ pub fn rx_tla_tlunitdata_req_bl(
     bytes: &[u8],
 ) -> Answer
     requires { ⌜ inRange state ≡ true ⌝ }
-    requires { ⌜ length (now store) ≡ 32256 ⌝ }
+    requires { ⌜ length (now store) ≡ storeBytes ⌝ }
     requires { ⌜ requestRange q ≡ true ⌝ }
     requires { ⌜ RequestInside q (now bytes) ⌝ }
     ensures { λ r. ⌜ WithAnyOut r (bits (now (store .exit))) state (bits (now (store .entry))) (onUnitdata (requestOf q (now (bytes .entry))) state (bits (now (store .entry)))) ⌝ }

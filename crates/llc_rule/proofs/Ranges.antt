@@ -7,6 +7,7 @@ use borrow.Author.Tests.{eqb-true, leb-true}
 use lib.Dec.{eqb, leb, ltb}
 use lib.ListN.{length}
 use Rattle.llc_pdus.specs.Writes.{longest}
+use Rattle.llc_rule.specs.Limits.{longestFrame}
 use Rattle.llc_rule.specs.Calls.{Request, Frame}
 use Rattle.llc_rule.specs.Ranges.{hasMask, isType, isReceipt, requestInRange, frameInRange}
 use Rattle.llc_rule.proofs.Lists.{by-test, both}
@@ -37,12 +38,12 @@ request-fields r h =
 pub record FrameFields (f : Frame) : Type 0 where
   pub type : isType (f .type) ≡ true
   pub block : leb (length (f .block)) 64 ≡ true
-  pub pdu : leb (length (f .pdu)) 2633 ≡ true
+  pub pdu : leb (length (f .pdu)) longestFrame ≡ true
 
 pub frame-fields : (f : Frame) → frameInRange f ≡ true → FrameFields f
 unfolding frameInRange
 frame-fields f h =
-    let h₁ = both {y = leb (length (f .pdu)) 2633} h in
+    let h₁ = both {y = leb (length (f .pdu)) longestFrame} h in
     let h₂ = both {y = leb (length (f .block)) 64} (h₁ .0) in
     record { type = h₂ .0; block = h₂ .1; pdu = h₁ .1 }
 
@@ -52,9 +53,9 @@ type-at-most n h =
     by-test (eqb n 1) (λ t. omega (arith, eqb-true n 1 t)) (λ f. omega (arith, eqb-true n 2 (rw f at h)))
 
 -- The lengths.
-pub frame-lengths : (f : Frame) → frameInRange f ≡ true → (length (f .block) ≤ 64) × (length (f .pdu) ≤ 2633)
+pub frame-lengths : (f : Frame) → frameInRange f ≡ true → (length (f .block) ≤ 64) × (length (f .pdu) ≤ longestFrame)
 frame-lengths f h =
-    let t = frame-fields f h in (leb-true (length (f .block)) 64 (t .block), leb-true (length (f .pdu)) 2633 (t .pdu))
+    let t = frame-fields f h in (leb-true (length (f .block)) 64 (t .block), leb-true (length (f .pdu)) longestFrame (t .pdu))
 
 pub request-lengths : (r : Request) → requestInRange r ≡ true → (length (r .block) ≤ 64) × (length (r .sdu) ≤ longest)
 request-lengths r h =

@@ -14,6 +14,8 @@ use Rattle.bits.specs.Bits.{value, toBits, AllBits}
 use Rattle.bits.proofs.Laws.{toBits-value, all-take, all-drop, all-append}
 use Rattle.bits.proofs.Bytes.{all-zeros}
 use Rattle.llc_pdus.specs.Headers.{bit}
+use Rattle.llc_pdus.specs.Writes.{longestSent}
+use Rattle.llc_rule.specs.Limits.{longestFrame}
 use Rattle.llc_rule.specs.Calls.{fromBytes, toBytes}
 use Rattle.llc_rule.specs.Records.{Record, acknowledged, reply, unacknowledged, dataUp, unitdataUp, Sent, Reply, Indication, field, number, packed, pack, counted, masked, countedIfAny, sentBytes, replyBytes, indicationBytes, bytes, allBytes}
 use Rattle.llc_rule.specs.Sound.{All}
@@ -494,8 +496,11 @@ size-if-any : (l : List ℕ) → sizeIfAny l ≤ 5 + (length l + 7) / 8
 size-if-any [] = omega arith
 size-if-any (b ∷ l) = omega arith
 
--- A small message takes at most 450 bytes.
-pub small-sent : (k : ℕ) (s : Sent) → SmallSent s → length (sentBytes k s) ≤ 450
+-- How many bytes a small message takes at most: its fields with a mask, its block and its frame.
+abbrev pub mostSent : ℕ
+mostSent = 60 + 64 + (longestSent + 7) / 8
+
+pub small-sent : (k : ℕ) (s : Sent) → SmallSent s → length (sentBytes k s) ≤ mostSent
 small-sent k s h =
     let n = length-sent k s in
     let m = mask-size (s .mask) in
@@ -508,12 +513,15 @@ small-reply r h =
     let m = mask-size (r .mask) in
     omega arith
 
--- What goes up of a frame in range takes at most 434.
+-- How many bytes it takes at most what goes up of a frame in range.
+abbrev pub mostUp : ℕ
+mostUp = 40 + 64 + (longestFrame + 7) / 8
+
 pub small-indication :
     (k : ℕ) (i : Indication)
     → length (i .block) ≤ 64
-    → length (i .sdu) ≤ 2633
-    → length (indicationBytes k i) ≤ 434
+    → length (i .sdu) ≤ longestFrame
+    → length (indicationBytes k i) ≤ mostUp
 small-indication k i hb hs =
     let n = length-indication k i in
     let m = size-if-any (i .sdu) in

@@ -1,4 +1,4 @@
--- Room for the records of any call: at most 46,656 bytes.
+-- Room for the records of any call in every output.
 use Prim.Native.Nat.{ℕ, _+_, _*_, _≤_}
 use native.Mathlib.Omega.{arith}
 use mathlib.Core.Path.{_≡_, refl, sym}
@@ -13,6 +13,7 @@ use Rattle.llc_pdus.specs.Headers.{Reading, reading, hasFcs, header}
 use Rattle.llc_pdus.specs.declared.Pdu.{Pdu}
 use Rattle.llc_pdus.proofs.Laws.{header-short}
 use Rattle.llc_pdus.specs.declared.Pdu.the-variants.{BlAdata, BlData, BlUdata, BlAck}
+use Rattle.llc_rule.specs.Limits.{longestFrame, outputBytes}
 use Rattle.llc_rule.specs.Lists.{Visit, walk, among}
 use Rattle.llc_rule.specs.Calls.{Call, start, tickStart, tickEnd, dataRequest, unitdataRequest, frame, report, release, Request, Frame, parsed}
 use Rattle.llc_rule.specs.Ranges.{requestInRange, frameInRange, inRange}
@@ -26,7 +27,7 @@ use Rattle.llc_rule.specs.Runs.{left, given, after}
 use Rattle.llc_rule.specs.Sound.{All, Within}
 use Rattle.llc_rule.specs.Sizes.{SmallSent, Small}
 use Rattle.llc_rule.proofs.Lists.{by-test, either}
-use Rattle.llc_rule.proofs.Records.{small-sent, small-reply, small-indication}
+use Rattle.llc_rule.proofs.Records.{mostSent, small-sent, small-reply, small-indication}
 use Rattle.llc_rule.proofs.Ranges.{frame-lengths, request-lengths}
 use Rattle.llc_rule.proofs.Held.{asked, passed-retransmissions, passed-firsts, AllHeld, Brought, BringsIn, held-step}
 
@@ -62,11 +63,11 @@ map-at-most n P f h (a ∷ l) p =
 -- The two passes over acknowledged messages -------------------------------------------------------------------------------
 
 -- The record of a small message.
-acknowledged-at-most : (s : Sent) → SmallSent s → AtMost 450 (acknowledged s)
+acknowledged-at-most : (s : Sent) → SmallSent s → AtMost mostSent (acknowledged s)
 unfolding bytes
 acknowledged-at-most s h = small-sent 1 s h
 
-unacknowledged-at-most : (s : Sent) → SmallSent s → AtMost 450 (unacknowledged s)
+unacknowledged-at-most : (s : Sent) → SmallSent s → AtMost mostSent (unacknowledged s)
 unfolding bytes
 unacknowledged-at-most s h = small-sent 3 s h
 
@@ -160,15 +161,15 @@ four : (p q r s : List Record) → length (allBytes (p ++ (q ++ (r ++ s))))
 four p q r s = simp (allBytes-append, length-append)
 
 -- The records of a tick end: resends and first sendings together are at most as many as the acknowledged messages.
-pub tick-end-room : (l : Link) → Within l → Small l → length (allBytes (onTickEnd l .records)) ≤ 46656
+pub tick-end-room : (l : Link) → Within l → Small l → length (allBytes (onTickEnd l .records)) ≤ outputBytes
 unfolding onTickEnd
 tick-end-room l w h =
-    let again = passed-retransmissions SmallSent (AtMost 450) acknowledged-at-most l (h .acknowledged) in
-    let firsts = passed-firsts SmallSent (AtMost 450) acknowledged-at-most l (h .acknowledged) in
-    let a = bytes-in-all 450 (retransmissions l .out) (again .out) in
-    let b = bytes-in-all 450 (firstSendings l .out) (firsts .out) in
+    let again = passed-retransmissions SmallSent (AtMost mostSent) acknowledged-at-most l (h .acknowledged) in
+    let firsts = passed-firsts SmallSent (AtMost mostSent) acknowledged-at-most l (h .acknowledged) in
+    let a = bytes-in-all mostSent (retransmissions l .out) (again .out) in
+    let b = bytes-in-all mostSent (firstSendings l .out) (firsts .out) in
     let c = map-at-most 54 (λ (d : Due). Unit {0}) replyTo reply-at-most (l .due) (all-unit (l .due)) in
-    let d = map-at-most 450 SmallSent unacknowledged unacknowledged-at-most (l .unacknowledged) (h .unacknowledged) in
+    let d = map-at-most mostSent SmallSent unacknowledged unacknowledged-at-most (l .unacknowledged) (h .unacknowledged) in
     rw (four (retransmissions l .out) (firstSendings l .out) (map replyTo (l .due)) (map unacknowledged (l .unacknowledged)))
     (omega (arith, modest-retransmissions l, modest-firsts l, w .acknowledged, w .due, w .unacknowledged))
 
@@ -176,9 +177,9 @@ tick-end-room l w h =
 
 -- The records of an outcome have room.
 abbrev HasRoom : Outcome (Done Link) → Type 0
-HasRoom o = length (allBytes (given o)) ≤ 46656
+HasRoom o = length (allBytes (given o)) ≤ outputBytes
 
-no-records : length (allBytes []) ≤ 46656
+no-records : length (allBytes []) ≤ outputBytes
 unfolding allBytes
 no-records = omega arith
 
@@ -203,7 +204,7 @@ shorter l = shorter-checked l (reading l)
 
 -- What goes up of a frame in range.
 one-up :
-    (k : ℕ) (i : Indication) → length (i .block) ≤ 64 → length (i .sdu) ≤ 2633 → length (indicationBytes k i ++ []) ≤ 46656
+    (k : ℕ) (i : Indication) → length (i .block) ≤ 64 → length (i .sdu) ≤ longestFrame → length (indicationBytes k i ++ []) ≤ outputBytes
 one-up k i hb hs =
     let n = small-indication k i hb hs in
     rw (append-nil (indicationBytes k i)) (omega arith)
@@ -211,8 +212,8 @@ one-up k i hb hs =
 up-room :
     (f : Frame) (p : Pdu) (sdu : List ℕ)
     → length (f .block) ≤ 64
-    → length sdu ≤ 2633
-    → length (allBytes (upward f p sdu)) ≤ 46656
+    → length sdu ≤ longestFrame
+    → length (allBytes (upward f p sdu)) ≤ outputBytes
 unfolding upward allBytes bytes
 up-room f (BlAdata c nr ns) sdu hb hs = one-up 4 (indication f (BlAdata c nr ns) (f .link) sdu) hb hs
 up-room f (BlData c ns) sdu hb hs = one-up 4 (indication f (BlData c ns) (f .link) sdu) hb hs
@@ -223,7 +224,7 @@ up-room f (BlAck c nr) (b ∷ sdu) hb hs = one-up 4 (indication f (BlAck c nr) 0
 received-room :
     (f : Frame) (o : Outcome Received) (l : Link)
     → length (f .block) ≤ 64
-    → length (f .pdu) ≤ 2633
+    → length (f .pdu) ≤ longestFrame
     → Shorter (f .pdu) o
     → HasRoom (onReceived f o l)
 unfolding onReceived
@@ -277,7 +278,7 @@ called-room l w h (accepted c) =
     ask-room 4 (isStart c || l .started) _ (λ e. ask-room 5 (inRange c) _ (λ e. act-room l w h c e))
 
 -- The records of any call.
-pub room : (l : Link) → Within l → Small l → (c : List ℕ) → length (allBytes (given (step l c))) ≤ 46656
+pub room : (l : Link) → Within l → Small l → (c : List ℕ) → length (allBytes (given (step l c))) ≤ outputBytes
 unfolding step
 room l w h c = called-room l w h (parsed c)
 

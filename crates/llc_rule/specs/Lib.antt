@@ -1,4 +1,5 @@
 pub mod Lists
+pub mod Limits
 pub mod Calls
 pub mod Records
 pub mod Ranges

@@ -6,6 +6,7 @@ use lib.Dec.{eqb, leb, ltb}
 use lib.ListN.{length}
 use Rattle.tdma_time.specs.Slots.{valid}
 use Rattle.llc_pdus.specs.Writes.{longest}
+use Rattle.llc_rule.specs.Limits.{longestFrame}
 use Rattle.llc_rule.specs.Calls.{Call, start, tickStart, tickEnd, dataRequest, unitdataRequest, frame, report, release, Request, Frame}
 
 -- "Flags: 1 steal, 2 FCS, 4 mask present."
@@ -38,7 +39,7 @@ requestInRange r =
     && leb (length (r .sdu)) longest
 
 unfoldable pub frameInRange : Frame → Bool
-frameInRange f = isType (f .type) && leb (length (f .block)) 64 && leb (length (f .pdu)) 2633
+frameInRange f = isType (f .type) && leb (length (f .block)) 64 && leb (length (f .pdu)) longestFrame
 
 unfoldable pub inRange : Call → Bool
 inRange (start carrier t251) = not (eqb t251 0)

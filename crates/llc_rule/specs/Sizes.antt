@@ -1,11 +1,10 @@
 -- The sizes of what a record holds: values that fit their fields, and messages no longer than question 5 lets them be.
-use Prim.Native.Nat.{ℕ, _+_, _^_, _≤_, _<_}
+use Prim.Native.Nat.{ℕ, _^_, _≤_, _<_}
 use mathlib.Core.List.{List}
 use mathlib.Core.Option.{Option, none, some}
 use lib.ListN.{length}
 use Rattle.bits.specs.Bits.{AllBits}
-use Rattle.llc_pdus.specs.Headers.{adata, lengthOf}
-use Rattle.llc_pdus.specs.Writes.{longest}
+use Rattle.llc_pdus.specs.Writes.{longestSent}
 use Rattle.llc_rule.specs.Records.{Sent, Reply, Indication, Record, acknowledged, reply, unacknowledged, dataUp, unitdataUp}
 use Rattle.llc_rule.specs.Messages.{Message}
 use Rattle.llc_rule.specs.Link.{Link}
@@ -60,7 +59,7 @@ Fits (unitdataUp i) = FitsIndication i
 -- A message as question 5 lets it be: a block of 64 bytes, an SDU behind the longest header.
 pub record SmallSent (s : Sent) : Type 0 where
   pub block : length (s .block) ≤ 64
-  pub pdu : length (s .pdu) ≤ lengthOf adata + longest
+  pub pdu : length (s .pdu) ≤ longestSent
 
 -- All messages of a link are so.
 pub record Small (l : Link) : Type 0 where

@@ -10,6 +10,7 @@ use lib.Dec.{eqb}
 use lib.ListN.{length}
 use Rattle.bits.proofs.Laws.{length-bits}
 use Rattle.questions.specs.Outcome.{number}
+use Rattle.llc_rule.specs.Limits.{storeBytes}
 use Rattle.llc_rule.specs.Lists.{keep}
 use Rattle.llc_rule.specs.Calls.{Request, parsed}
 use Rattle.llc_rule.specs.Link.{Link, new}
@@ -61,13 +62,13 @@ begin-long store = length-bits store
 
 in-range : (store : List ℕ) (cs : List Lent) → InRange store cs
 in-range store cs =
-    by-test (eqb (length store) 32256)
+    by-test (eqb (length store) storeBytes)
     (λ right.
     let ok = follows (begin store) cs (begin-right store right) .sane in
     record {
       state = ok .range;
       number = λ c. one-is (after (begin store) cs) c (asks (after (begin store) cs) c ok);
-      length = ok .long ∙ ap (λ (k : ℕ). 8 * k) (sym (eqb-true (length store) 32256 right));
+      length = ok .long ∙ ap (λ (k : ℕ). 8 * k) (sym (eqb-true (length store) storeBytes right));
     })
     (λ wrong.
     let w = begin-wrong store wrong in
@@ -187,7 +188,7 @@ two-put c d later f g = fitting-yes c (d ∷ later) f ∙ ap (λ (x : List (List
 -- Calls before others, on a store of the right length.
 pub put-right :
     (store : List ℕ) (before cs : List Lent) (ds : List (List ℕ))
-    → eqb (length store) 32256 ≡ true
+    → eqb (length store) storeBytes ≡ true
     → fitting cs ≡ ds
     → putTo store (before ++ cs) ≡ putTo store before ++ ds
 put-right store before cs ds right e =
@@ -195,12 +196,12 @@ put-right store before cs ds right e =
     ∙ fitting-append before cs
     ∙ ap₂ (λ (x y : List (List ℕ)). x ++ y) (sym (if-true (fitting before) [] right)) e
 
-put-wrong : (store : List ℕ) (cs ds : List Lent) → eqb (length store) 32256 ≡ false → putTo store cs ≡ putTo store ds
+put-wrong : (store : List ℕ) (cs ds : List Lent) → eqb (length store) storeBytes ≡ false → putTo store cs ≡ putTo store ds
 put-wrong store cs ds wrong = if-false (fitting cs) [] wrong ∙ sym (if-false (fitting ds) [] wrong)
 
 put-same :
     (store : List ℕ) (before cs ds : List Lent)
-    → eqb (length store) 32256 ≡ true
+    → eqb (length store) storeBytes ≡ true
     → fitting cs ≡ fitting ds
     → putTo store (before ++ cs) ≡ putTo store (before ++ ds)
 put-same store before cs ds right e =
@@ -219,7 +220,7 @@ unfolding keep
 swapped store before c d later s t c-is d-is differ one other a =
     let cs : List Lent = before ++ (c ∷ d ∷ later) in
     let ds : List Lent = before ++ (d ∷ c ∷ later) in
-    by-test (eqb (length store) 32256)
+    by-test (eqb (length store) storeBytes)
     (λ right.
     by-test (fits c)
     (λ f.
@@ -319,7 +320,7 @@ four store before c r later n e =
     let s : Station = after (begin store) before in
     let none : lentRight (s .store) (c .out) ≡ false → AtMostFour r (sendings (r .receipt) (run (left s c) later)) =
     λ w. absurd (omega (arith, n, asks-not s c w .one)) in
-    by-test (eqb (length store) 32256)
+    by-test (eqb (length store) storeBytes)
     (λ right.
     let ok = follows (begin store) before (begin-right store right) .sane in
     by-test (lentRight (s .store) (c .out)) (λ w. four-right store before c r later (asks s c ok w) n e) none)

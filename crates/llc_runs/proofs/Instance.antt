@@ -1,6 +1,6 @@
 -- A run that meets the hypotheses of the theorems: the calls of the instance on the link, each lent an output of 46,656 bytes, on
 -- a store of 32,256; and before the two requests one call that is lent a byte too few.
-use Prim.Native.Nat.{ℕ, _*_, _<_}
+use Prim.Native.Nat.{ℕ, _-_, _*_, _<_}
 use native.Mathlib.Omega.{arith}
 use mathlib.Core.Path.{_≡_, _∙_, refl, ap, ap₂}
 use mathlib.Core.Bool.{Bool, true, false, not}
@@ -8,6 +8,7 @@ use mathlib.Core.List.{List, [], _∷_, _++_, append-nil}
 use borrow.Author.Tests.{ltb-true, le-leb, lt-leb, eq-eqb}
 use lib.Dec.{eqb, ltb, leb}
 use lib.ListN.{length, replicate, length-replicate}
+use Rattle.llc_rule.specs.Limits.{outputBytes, storeBytes}
 use Rattle.llc_rule.specs.Lists.{keep, all}
 use Rattle.llc_rule.specs.Calls.{toBytes}
 use Rattle.llc_rule.specs.Link.{new}
@@ -45,7 +46,7 @@ lend out (c ∷ cs) e =
     let t = both {x = isBytes c} {y = all isBytes cs} e in lendOne out c (t .0) ∷ lend out cs (t .1)
 
 lent-fit :
-    (out : List ℕ) (cs : List (List ℕ)) (e : all isBytes cs ≡ true) → leb 46656 (length out) ≡ true → fitting (lend out cs e) ≡ cs
+    (out : List ℕ) (cs : List (List ℕ)) (e : all isBytes cs ≡ true) → leb outputBytes (length out) ≡ true → fitting (lend out cs e) ≡ cs
 unfolding all lend keep
 lent-fit out [] e n = refl
 lent-fit out (c ∷ cs) e n =
@@ -55,24 +56,24 @@ lent-fit out (c ∷ cs) e n =
 
 -- Store and outputs of zeros, and an output that is a byte too short.
 abbrev pub zeroStore : List ℕ
-zeroStore = replicate 32256 0
+zeroStore = replicate storeBytes 0
 
 pub wide : List ℕ
-wide = replicate 46656 0
+wide = replicate outputBytes 0
 
 pub short : List ℕ
-short = replicate 46655 0
+short = replicate (outputBytes - 1) 0
 
-pub right : eqb (length zeroStore) 32256 ≡ true
-right = eq-eqb (length zeroStore) 32256 (length-replicate {A = ℕ} 32256 0)
+pub right : eqb (length zeroStore) storeBytes ≡ true
+right = eq-eqb (length zeroStore) storeBytes (length-replicate {A = ℕ} storeBytes 0)
 
-pub wide-fits : leb 46656 (length wide) ≡ true
+pub wide-fits : leb outputBytes (length wide) ≡ true
 unfolding wide
-wide-fits = le-leb 46656 (length (replicate {A = ℕ} 46656 0)) (omega (arith, length-replicate {A = ℕ} 46656 0))
+wide-fits = le-leb outputBytes (length (replicate {A = ℕ} outputBytes 0)) (omega (arith, length-replicate {A = ℕ} outputBytes 0))
 
-pub short-does-not : leb 46656 (length short) ≡ false
+pub short-does-not : leb outputBytes (length short) ≡ false
 unfolding short
-short-does-not = lt-leb 46656 (length (replicate {A = ℕ} 46655 0)) (omega (arith, length-replicate {A = ℕ} 46655 0))
+short-does-not = lt-leb outputBytes (length (replicate {A = ℕ} (outputBytes - 1) 0)) (omega (arith, length-replicate {A = ℕ} (outputBytes - 1) 0))
 
 -- The calls are bytes.
 opening-bytes : all isBytes openingCalls ≡ true
@@ -182,7 +183,7 @@ pub one-lent : eqb (exchange (after (begin zeroStore) started) tooShort .number)
 unfolding lentRight tooShort
 one-lent =
     claim .inRange zeroStore started .number tooShort
-    ∙ ap not (and-false (eqb (length (after (begin zeroStore) started .store)) (8 * 32256)) short-does-not)
+    ∙ ap not (and-false (eqb (length (after (begin zeroStore) started .store)) (8 * storeBytes)) short-does-not)
 
 -- So demand 3 says of it what it says of every address.
 pub sees-lents : (a : ℕ) → SeesItsOwnPast (run (begin zeroStore) lents) (receiptsAfter zeroStore lents) a

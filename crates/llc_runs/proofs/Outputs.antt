@@ -7,6 +7,7 @@ use lib.Dec.{eqb}
 use lib.ListN.{length, take, drop}
 use lib.Seq.{take-at}
 use Rattle.questions.specs.Outcome.{Outcome, accepted, refused}
+use Rattle.llc_rule.specs.Limits.{storeBytes}
 use Rattle.llc_rule.specs.Lists.{keep}
 use Rattle.llc_rule.specs.Records.{bytes, allBytes}
 use Rattle.llc_rule.specs.Link.{new}
@@ -82,7 +83,7 @@ fitting-bytes (c ∷ cs) =
 
 run-fits : (store : List ℕ) (cs : List Lent) → All RecordsFit (run (begin store) cs)
 run-fits store cs =
-    let put : All (All IsByte) (putTo store cs) = either (All (All IsByte)) (eqb (length store) 32256) (fitting-bytes cs) tt in
+    let put : All (All IsByte) (putTo store cs) = either (All (All IsByte)) (eqb (length store) storeBytes) (fitting-bytes cs) tt in
     fits-heard (run (begin store) cs) (silent (begin store) cs)
     (subst (All RecordsFit) (sym (as-step store cs .heard)) (fits-run new new-fits (putTo store cs) put))
 

@@ -10,6 +10,7 @@ use lib.ListN.{length}
 use Rattle.bits.specs.Bits.{bits}
 use Rattle.bits.proofs.Laws.{length-bits}
 use Rattle.questions.specs.Outcome.{Outcome, accepted, refused}
+use Rattle.llc_rule.specs.Limits.{storeBytes}
 use Rattle.llc_rule.specs.Lists.{keep}
 use Rattle.llc_rule.specs.Link.{Link, new}
 use Rattle.llc_rule.specs.Step.{step}
@@ -131,7 +132,7 @@ fitting-no c cs f = ap (map (λ (x : Lent). x .call)) (keep-no fits c cs f)
 
 pub right-is : (s : Station) (c : Lent) → Sane (s .state) (s .store) → lentRight (s .store) (c .out) ≡ fits c
 unfolding lentRight
-right-is s c ok = ap (λ (b : Bool). b && fits c) (eq-eqb (length (s .store)) (8 * 32256) (ok .long))
+right-is s c ok = ap (λ (b : Bool). b && fits c) (eq-eqb (length (s .store)) (8 * storeBytes) (ok .long))
 
 pub record Followed (s : Station) (cs : List Lent) : Type 0 where
   pub heard : heard (run s cs) ≡ Rule.run (linkAt s) (fitting cs)
@@ -172,7 +173,7 @@ follows s (c ∷ cs) ok =
 
 -- A run on a store of another length: every call gets number 1, and nothing changes.
 abbrev pub Wrong : Station → Type 0
-Wrong s = eqb (length (s .store)) (8 * 32256) ≡ false
+Wrong s = eqb (length (s .store)) (8 * storeBytes) ≡ false
 
 pub wrong-is : (s : Station) (c : Lent) → Wrong s → lentRight (s .store) (c .out) ≡ false
 unfolding lentRight
@@ -198,21 +199,21 @@ begin-in : (store : List ℕ) → linkAt (begin store) ≡ new
 unfolding begin
 begin-in store = new-in (bits store)
 
-pub begin-right : (store : List ℕ) → eqb (length store) 32256 ≡ true → Sane (begin store .state) (begin store .store)
+pub begin-right : (store : List ℕ) → eqb (length store) storeBytes ≡ true → Sane (begin store .state) (begin store .store)
 unfolding begin
-begin-right store e = new-sane (bits store) (length-bits store ∙ ap (λ (k : ℕ). 8 * k) (eqb-true (length store) 32256 e))
+begin-right store e = new-sane (bits store) (length-bits store ∙ ap (λ (k : ℕ). 8 * k) (eqb-true (length store) storeBytes e))
 
-pub begin-wrong : (store : List ℕ) → eqb (length store) 32256 ≡ false → Wrong (begin store)
+pub begin-wrong : (store : List ℕ) → eqb (length store) storeBytes ≡ false → Wrong (begin store)
 unfolding begin
 begin-wrong store e =
-    ne-eqb (length (bits store)) (8 * 32256)
-    (λ q. eqb-false (length store) 32256 e (omega (arith, length-bits store, q)))
+    ne-eqb (length (bits store)) (8 * storeBytes)
+    (λ q. eqb-false (length store) storeBytes e (omega (arith, length-bits store, q)))
 
 -- Both.
 pub as-step : (store : List ℕ) (cs : List Lent) → AsStep store cs
 unfolding Rule.run Rule.after
 as-step store cs =
-    by-test (eqb (length store) 32256)
+    by-test (eqb (length store) storeBytes)
     (λ right.
     let f = follows (begin store) cs (begin-right store right) in
     record {

@@ -4,6 +4,7 @@ use mathlib.Core.Bool.{Bool, cond, not}
 use mathlib.Core.List.{List, [], map}
 use lib.Dec.{eqb, leb}
 use lib.ListN.{length}
+use Rattle.llc_rule.specs.Limits.{outputBytes, storeBytes}
 use Rattle.llc_rule.specs.Lists.{keep}
 use Rattle.llc_rule.specs.Runs.{Exchange}
 use Rattle.llc_runs.specs.Runs.{Lent}
@@ -17,10 +18,10 @@ heard es = keep wasHeard es
 
 -- The calls that are lent an output of at least 46,656 bytes; on a store of 32,256 bytes these are put to the link, on another none.
 abbrev pub fits : Lent → Bool
-fits c = leb 46656 (length (c .out))
+fits c = leb outputBytes (length (c .out))
 
 abbrev pub fitting : List Lent → List (List ℕ)
 fitting cs = map (λ (c : Lent). c .call) (keep fits cs)
 
 abbrev pub putTo : List ℕ → List Lent → List (List ℕ)
-putTo store cs = cond (eqb (length store) 32256) (fitting cs) []
+putTo store cs = cond (eqb (length store) storeBytes) (fitting cs) []

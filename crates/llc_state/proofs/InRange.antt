@@ -1,12 +1,14 @@
 -- What question 1 tells of a state, part by part.
-use Prim.Native.Nat.{_+_, _≤_, _<_}
+use Prim.Native.Nat.{_≤_, _<_}
 use mathlib.Core.Path.{_≡_, refl}
 use mathlib.Core.Bool.{Bool, true, false, _&&_}
 use borrow.Author.Tests.{leb-true, ltb-true, le-leb}
 use lib.Dec.{leb, ltb}
 use lib.ListN.{take}
 use Rattle.tdma_time.specs.Slots.{valid}
-use Rattle.llc_pdus.specs.Writes.{longest}
+use Rattle.llc_pdus.specs.Headers.{bdata, udata, ack, lengthOf}
+use Rattle.llc_pdus.specs.Writes.{longestOf, longestSent}
+use Rattle.llc_rule.specs.Limits.{storePlaces}
 use Rattle.llc_rule.specs.Lists.{all}
 use Rattle.llc_rule.specs.Ranges.{isType, isReceipt}
 use Rattle.llc_rule.proofs.Lists.{both, and-true, clash}
@@ -27,12 +29,12 @@ there-holds {there = false} f = refl
 pub record Held (e : Entry) : Type 0 where
   pub receipt : e .receipt < 128
   pub block : e .«block_len» ≤ 64
-  pub place : e .place < 96
+  pub place : e .place < storePlaces
 
 pub entry-tells : (e : Entry) → entryInRange e ≡ true → Held e
 unfolding entryInRange
 entry-tells e h =
-    let c = both {y = ltb (e .place) 96} h in
+    let c = both {y = ltb (e .place) storePlaces} h in
     let b = both {y = leb (e .«block_len») 64} (c .0) in
     let a =
     both {x = isSsi (e .ssi) && isType (e .«ssi_type») && ifThere (e .«has_mask») (ltb (e .mask) 16)} {y = isReceipt (e .receipt)} (b .0)
@@ -42,8 +44,8 @@ entry-tells e h =
 -- One of the acknowledged queue.
 pub record Message (e : Entry) : Type 0 where
   pub entry : entryInRange e ≡ true
-  pub low : 5 ≤ e .len
-  pub high : e .len ≤ 6 + longest
+  pub low : lengthOf bdata ≤ e .len
+  pub high : e .len ≤ longestSent
   pub count : e .«retransmit_count» ≤ 3
   pub done : e .«has_umac_done» ≡ true → valid (e .«t_umac_done») ≡ true
 
@@ -52,8 +54,8 @@ unfolding messageInRange
 message-tells e h =
     let d = both {y = ifThere (e .«has_umac_done») (valid (e .«t_umac_done»))} h in
     let c = both {y = leb (e .«retransmit_count») 3} (d .0) in
-    let b = both {y = leb (e .len) (6 + longest)} (c .0) in
-    let a = both {x = entryInRange e} {y = leb 5 (e .len)} (b .0) in
+    let b = both {y = leb (e .len) longestSent} (c .0) in
+    let a = both {x = entryInRange e} {y = leb (lengthOf bdata) (e .len)} (b .0) in
     record {
       entry = a .0;
       low = leb-true _ _ (a .1);
@@ -67,8 +69,8 @@ unfolding messageInRange
 message-holds e m =
     rw (
       m .entry,
-      le-leb 5 (e .len) (m .low),
-      le-leb (e .len) (6 + longest) (m .high),
+      le-leb (lengthOf bdata) (e .len) (m .low),
+      le-leb (e .len) longestSent (m .high),
       le-leb (e .«retransmit_count») 3 (m .count),
       there-holds (m .done),
     )
@@ -76,19 +78,19 @@ message-holds e m =
 -- One of the unacknowledged queue.
 pub record Udata (e : Entry) : Type 0 where
   pub entry : entryInRange e ≡ true
-  pub low : 4 ≤ e .len
-  pub high : e .len ≤ 5 + longest
+  pub low : lengthOf udata ≤ e .len
+  pub high : e .len ≤ longestOf ack
 
 pub udata-tells : (e : Entry) → udataInRange e ≡ true → Udata e
 unfolding udataInRange
 udata-tells e h =
-    let b = both {y = leb (e .len) (5 + longest)} h in
-    let a = both {x = entryInRange e} {y = leb 4 (e .len)} (b .0) in
+    let b = both {y = leb (e .len) (longestOf ack)} h in
+    let a = both {x = entryInRange e} {y = leb (lengthOf udata) (e .len)} (b .0) in
     record { entry = a .0; low = leb-true _ _ (a .1); high = leb-true _ _ (b .1) }
 
 pub udata-holds : (e : Entry) → Udata e → udataInRange e ≡ true
 unfolding udataInRange
-udata-holds e u = rw (u .entry, le-leb 4 (e .len) (u .low), le-leb (e .len) (5 + longest) (u .high))
+udata-holds e u = rw (u .entry, le-leb (lengthOf udata) (e .len) (u .low), le-leb (e .len) (longestOf ack) (u .high))
 
 -- The counts, and T251 and the time once they are set.
 pub record Head (s : State) : Type 0 where

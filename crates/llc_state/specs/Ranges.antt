@@ -2,13 +2,14 @@
 -- A value is in use if it lies below its array's count and, where a flag says whether it is there, the flag says so. The counts
 -- and the values in use are asked, and no others. T251 and the time are there once started; an entry of the unacknowledged
 -- queue has no N(S), no done time and no retransmissions.
-use Prim.Native.Nat.{ℕ, _+_}
+use Prim.Native.Nat.{ℕ}
 use mathlib.Core.Bool.{Bool, not, _&&_, _||_}
 use lib.Dec.{leb, ltb}
 use lib.ListN.{take}
 use Rattle.tdma_time.specs.Slots.{valid}
-use Rattle.llc_pdus.specs.Headers.{adata, bdata, udata, ack, lengthOf}
-use Rattle.llc_pdus.specs.Writes.{longest}
+use Rattle.llc_pdus.specs.Headers.{bdata, udata, ack, lengthOf}
+use Rattle.llc_pdus.specs.Writes.{longestOf, longestSent}
+use Rattle.llc_rule.specs.Limits.{storePlaces}
 use Rattle.llc_rule.specs.Lists.{all}
 use Rattle.llc_rule.specs.Ranges.{isType, isReceipt}
 use Rattle.llc_state.specs.declared.Entry.{Entry}
@@ -33,20 +34,20 @@ entryInRange e =
     && ifThere (e .«has_mask») (ltb (e .mask) 16)
     && isReceipt (e .receipt)
     && leb (e .«block_len») 64
-    && ltb (e .place) 96
+    && ltb (e .place) storePlaces
 
 -- One of the acknowledged queue: its frame is the header of a BL-DATA or a BL-ADATA and the SDU.
 unfoldable pub messageInRange : Entry → Bool
 messageInRange e =
     entryInRange e
     && leb (lengthOf bdata) (e .len)
-    && leb (e .len) (lengthOf adata + longest)
+    && leb (e .len) longestSent
     && leb (e .«retransmit_count») 3
     && ifThere (e .«has_umac_done») (valid (e .«t_umac_done»))
 
 -- One of the unacknowledged queue: its frame is the header of a BL-UDATA or a BL-ACK and the SDU.
 unfoldable pub udataInRange : Entry → Bool
-udataInRange e = entryInRange e && leb (lengthOf udata) (e .len) && leb (e .len) (lengthOf ack + longest)
+udataInRange e = entryInRange e && leb (lengthOf udata) (e .len) && leb (e .len) (longestOf ack)
 
 unfoldable pub ackInRange : ScheduledOutAck → Bool
 ackInRange a = isSsi (a .ssi) && isType (a .«ssi_type») && leb 1 (a .ts) && leb (a .ts) 4

@@ -5,6 +5,7 @@ use mathlib.Core.List.{List, map}
 use mathlib.Core.Option.{none, some}
 use lib.ListN.{take}
 use Rattle.bits.specs.Bits.{part}
+use Rattle.llc_rule.specs.Limits.{placeBytes}
 use Rattle.llc_rule.specs.Records.{Sent}
 use Rattle.llc_rule.specs.Messages.{Message, Due, Place, free, taken}
 use Rattle.llc_rule.specs.Link.{Link, Row}
@@ -15,9 +16,9 @@ use Rattle.llc_state.specs.declared.ReceiptPlace.{ReceiptPlace}
 use Rattle.llc_state.specs.declared.LinkSendSeq.{LinkSendSeq}
 use Rattle.llc_state.specs.declared.State.{State}
 
--- "Frame bits lie in the store, 96 places of 336 bytes": where a place begins, in bits.
+-- Where a place of the store begins, in bits.
 abbrev pub placeBit : ℕ → ℕ
-placeBit p = 8 * (336 * p)
+placeBit p = 8 * (placeBytes * p)
 
 -- The frame of a message.
 unfoldable pub frameIn : List ℕ → Entry → List ℕ

@@ -7,6 +7,12 @@ mod starts;
 pub use starts::NEW;
 use tdma_time::TdmaTime;
 
+/// How many places the store has, each for the frame of one message.
+pub const STORE_PLACES: usize = 96;
+
+/// How many bytes a place of the store has.
+pub const PLACE_BYTES: usize = 336;
+
 /// A message that the link holds. Its frame's bits lie in the store.
 #[repr(C)]
 pub struct Entry {
@@ -34,7 +40,7 @@ pub struct Entry {
     pub block_len: usize,
     /// Pass-through block, of which `block_len` bytes count.
     pub block: [u8; 64],
-    /// Which of the 96 places of the store its frame has.
+    /// Which of the places of the store its frame has.
     pub place: usize,
     /// How many bits its frame has.
     pub len: usize,

@@ -7,6 +7,7 @@ ghost use Rattle.llc_state.specs.Ranges.{entryInRange, messageInRange, u
 use crate::Entry;
 use crate::LinkSendSeq;
 use crate::ReceiptPlace;
+use crate::STORE_PLACES;
 use crate::ScheduledOutAck;
 use crate::State;
 use llc_pdus::N251_BL_MAX_TLSDU_LEN_BITS;
@@ -30,7 +31,7 @@ fn entry_in_range(e: Entry) -> bool
         & (!e.has_mask | (e.mask < 16))
         & (e.receipt < 128)
         & (e.block_len <= 64)
-        & (e.place < 96)
+        & (e.place < STORE_PLACES)
 }
 
 // An entry of the acknowledged queue.

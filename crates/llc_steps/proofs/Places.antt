@@ -11,6 +11,7 @@ use lib.ListN.{length, take, drop, length-append, length-map, length-drop}
 use lib.Seq.{drop-at, drop-append-le, drop-append-add, drop-drop, take-append-le, take-append-seam, length-take-le}
 use Rattle.bits.specs.Bits.{part, splice}
 use Rattle.bits.proofs.Laws.{part-take}
+use Rattle.llc_rule.specs.Limits.{placeBits, storeBytes, storePlaces}
 use Rattle.llc_rule.specs.Lists.{keep, any, among}
 use Rattle.llc_rule.specs.Sound.{All}
 use Rattle.llc_rule.proofs.Lists.{by-test, neither, clash, any-append, length-keep, none-counted}
@@ -64,11 +65,11 @@ first-from (suc n) p us h =
     rw e (omega arith, ih .1))
     (λ e. rw e (omega arith, e))
 
--- Of 96 places, one is free where at most 95 are used.
-pub first-free : (us : List ℕ) → length us ≤ 95 → (firstFree 96 0 us < 96) × (among (firstFree 96 0 us) us ≡ false)
+-- Of the places, one is free where not all are used.
+pub first-free : (us : List ℕ) → length us < storePlaces → (firstFree storePlaces 0 us < storePlaces) × (among (firstFree storePlaces 0 us) us ≡ false)
 first-free us h =
     let few = length-keep (leb 0) us in
-    let found = first-from 96 0 us (omega arith) in
+    let found = first-from storePlaces 0 us (omega arith) in
     let below = found .0 in
     (omega arith, found .1)
 
@@ -83,8 +84,8 @@ none-there p (e ∷ es) h = let both = neither h in (both .0, none-there p es (b
 -- The place that a new message takes is in the store, and no held message has it.
 pub free-place :
     (s : State)
-    → length (take (s .«n_messages») (s .«outbound_messages»)) + length (take (s .«n_udata») (s .«outbound_udata_messages»)) ≤ 95
-    → (freePlace s < 96)
+    → length (take (s .«n_messages») (s .«outbound_messages»)) + length (take (s .«n_udata») (s .«outbound_udata_messages»)) < storePlaces
+    → (freePlace s < storePlaces)
     × All (λ (e : Entry). eqb (e .place) (freePlace s) ≡ false) (take (s .«n_messages») (s .«outbound_messages»))
     × All (λ (e : Entry). eqb (e .place) (freePlace s) ≡ false) (take (s .«n_udata») (s .«outbound_udata_messages»))
 unfolding freePlace usedPlaces
@@ -95,7 +96,7 @@ free-place s h =
     let long : length (map place ms ++ map place us) ≡ length ms + length us =
     length-append (map place ms) (map place us) ∙ rw (length-map ms place, length-map us place) in
     let free = first-free (map place ms ++ map place us) (rw long h) in
-    let p : ℕ = firstFree 96 0 (map place ms ++ map place us) in
+    let p : ℕ = firstFree storePlaces 0 (map place ms ++ map place us) in
     let none = neither (sym (any-append (λ (k : ℕ). eqb k p) (map place ms) (map place us)) ∙ free .1) in
     (free .0, none-there p ms (none .0), none-there p us (none .1))
 
@@ -145,20 +146,20 @@ part-behind l at vs q n h behind =
 -- A frame that was put into a place is read there, and every other place is as it was.
 pub part-there :
     (store : List ℕ) (p : ℕ) (vs : List ℕ)
-    → length store ≡ 8 * 32256
-    → p < 96
-    → length vs ≤ 2688
+    → length store ≡ 8 * storeBytes
+    → p < storePlaces
+    → length vs ≤ placeBits
     → part (splice store (placeBit p) vs) (placeBit p) (length vs) ≡ vs
 part-there store p vs long inside fits = part-same store (placeBit p) vs (omega arith)
 
 pub part-elsewhere :
     (store : List ℕ) (p q n : ℕ) (vs : List ℕ)
-    → length store ≡ 8 * 32256
-    → p < 96
-    → q < 96
+    → length store ≡ 8 * storeBytes
+    → p < storePlaces
+    → q < storePlaces
     → eqb q p ≡ false
-    → length vs ≤ 2688
-    → n ≤ 2688
+    → length vs ≤ placeBits
+    → n ≤ placeBits
     → part (splice store (placeBit p) vs) (placeBit q) n ≡ part store (placeBit q) n
 part-elsewhere store p q n vs long p-inside q-inside e fits short =
     let other : q ≡ p → ⊥ = eqb-false q p e in
@@ -173,12 +174,12 @@ part-elsewhere store p q n vs long p-inside q-inside e fits short =
 -- So the frame of a message in another place is as it was.
 pub frame-elsewhere :
     (store : List ℕ) (p : ℕ) (vs : List ℕ) (e : Entry)
-    → length store ≡ 8 * 32256
-    → p < 96
-    → e .place < 96
+    → length store ≡ 8 * storeBytes
+    → p < storePlaces
+    → e .place < storePlaces
     → eqb (e .place) p ≡ false
-    → length vs ≤ 2688
-    → e .len ≤ 2688
+    → length vs ≤ placeBits
+    → e .len ≤ placeBits
     → frameIn (splice store (placeBit p) vs) e ≡ frameIn store e
 unfolding frameIn
 frame-elsewhere store p vs e long inside there other fits short =

@@ -6,6 +6,7 @@ use mathlib.Core.Bool.{Bool, true}
 use mathlib.Core.List.{List, [], _∷_}
 use lib.ListN.{length}
 use lib.Seq.{length-take-le}
+use Rattle.llc_rule.specs.Limits.{storeBytes}
 use Rattle.llc_rule.specs.Lists.{all}
 use Rattle.llc_rule.specs.Sound.{All}
 use Rattle.llc_rule.proofs.Lists.{both}
@@ -29,7 +30,7 @@ all-stored p f [] h = tt
 all-stored p f (e ∷ es) h = let t = both {x = p e} {y = all p es} h in (f e (t .0), all-stored p f es (t .1))
 
 -- The arrays have their lengths in every state that the code has (`lengths` of llc_state).
-pub ready : (s : State) (store : List ℕ) → Lengths s → inRange s ≡ true → length store ≡ 8 * 32256 → Ready s store
+pub ready : (s : State) (store : List ℕ) → Lengths s → inRange s ≡ true → length store ≡ 8 * storeBytes → Ready s store
 ready s store long h e =
     let r = range-tells s h in
     record {

@@ -1,5 +1,5 @@
 -- A request on the entries is the request on the link that they hold.
-use Prim.Native.Nat.{ℕ, _+_, _-_, _≤_}
+use Prim.Native.Nat.{ℕ, _+_, _-_, _≤_, _<_}
 use native.Mathlib.Omega.{arith}
 use mathlib.Core.Path.{_≡_, _∙_, refl, sym, ap, ap₂}
 use mathlib.Core.Bool.{Bool, true, false, cond, not, _&&_, _||_}
@@ -17,6 +17,7 @@ use Rattle.llc_pdus.specs.Writes.{longest}
 use Rattle.llc_pdus.specs.declared.Pdu.{Pdu}
 use Rattle.llc_pdus.proofs.Laws.{header-short}
 use Rattle.llc_pdus.specs.declared.Pdu.the-variants.{BlUdata, BlAck}
+use Rattle.llc_rule.specs.Limits.{placeBits, storePlaces}
 use Rattle.llc_rule.specs.Lists.{Found, nothing, first, others}
 use Rattle.llc_rule.specs.Calls.{Request}
 use Rattle.llc_rule.specs.Ranges.{steals, wantsFcs}
@@ -227,8 +228,8 @@ all-both P Q R (x ∷ l) f p q = (f x (p .0) (q .0), all-both P Q R l f (p .1) (
 placed :
     (s : State) (store pdu : List ℕ)
     → Ready s store
-    → s .«n_messages» + s .«n_udata» ≤ 95
-    → length pdu ≤ 2688
+    → s .«n_messages» + s .«n_udata» < storePlaces
+    → length pdu ≤ placeBits
     → Placed s store pdu (splice store (placeBit (freePlace s)) pdu)
 placed s store pdu ok few short =
     let p : ℕ = freePlace s in
@@ -248,7 +249,7 @@ pub ask-same : {A : Type 0} (n : ℕ) {b c : Bool} {x y : Outcome A} → b ≡ c
 ask-same n {b} {c} {x} {y} e f = ap (λ (t : Bool). ask n b x) e ∙ by-test b (λ t. rw (← e, t) (f t)) (λ t. rw (← e, t))
 
 module _ (r : Request) (s : State) (store : List ℕ) (ok : Ready s store) (block : length (r .block) ≤ 64) (sdu : length (r .sdu) ≤ longest) where
-  pdu-short : (p : Pdu) → length (header p ++ r .sdu) ≤ 2688
+  pdu-short : (p : Pdu) → length (header p ++ r .sdu) ≤ placeBits
   pdu-short p = omega (arith, length-append (header p) (r .sdu), header-short p)
 
   receipt-in : receiptFree r s ≡ Step.receiptFree r (linkIn s store)

@@ -8,6 +8,7 @@ use borrow.Author.Tests.{not-true, eqb-false, lt-ltb}
 use lib.Dec.{eqb}
 use lib.ListN.{length}
 use Rattle.questions.specs.Outcome.{Outcome, accepted, refused}
+use Rattle.llc_rule.specs.Limits.{storeBytes}
 use Rattle.llc_rule.specs.Calls.{Call, start, tickStart, tickEnd, dataRequest, unitdataRequest, frame, report, release, parsed}
 use Rattle.llc_rule.specs.Ranges.{inRange}
 use Rattle.llc_rule.specs.Received.{received}
@@ -28,13 +29,13 @@ use Rattle.llc_steps.proofs.SaneCalls.{received-sane, report-sane, rele
 empty-sane :
     (started : Bool) (carrier t251 : ℕ) (store : List ℕ)
     → Ranges.inRange (emptyState started carrier t251) ≡ true
-    → length store ≡ 8 * 32256
+    → length store ≡ 8 * storeBytes
     → Sane (emptyState started carrier t251) store
 unfolding emptyState
 empty-sane started carrier t251 store r long =
     record { messages = refl; udata = refl; acks = refl; places = refl; rows = refl; range = r; long = long }
 
-pub new-sane : (store : List ℕ) → length store ≡ 8 * 32256 → Sane newState store
+pub new-sane : (store : List ℕ) → length store ≡ 8 * storeBytes → Sane newState store
 new-sane store long = empty-sane false 0 0 store new-in-range long
 
 acts-sane : (c : Call) (s : State) (store : List ℕ) → Sane s store → CallFits c → isStart c || s .started ≡ true → inRange c ≡ true → SaneAfter (acts c s store)

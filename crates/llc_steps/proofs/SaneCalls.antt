@@ -17,6 +17,7 @@ use Rattle.tdma_time.proofs.Range as Time
 use Rattle.tx_receipt.specs.States.{is, final}
 use Rattle.tx_receipt.specs.Marks as Marks
 use Rattle.tx_receipt.specs.declared.TxState.the-variants.{Pending}
+use Rattle.llc_rule.specs.Limits.{longestFrame}
 use Rattle.llc_rule.specs.Lists.{Found, nothing, first}
 use Rattle.llc_rule.specs.Calls.{Frame}
 use Rattle.llc_rule.specs.Messages.{slotBefore}
@@ -47,7 +48,7 @@ module _ (f : Frame) (s : State) (store : List ℕ) (ok : Sane s store) (ssi : f
   -- The new acknowledgement due is in range, and there is room for it.
   type-in-range : isType (f .type) ≡ true
   unfolding frameInRange
-  type-in-range = both {y = leb (length (f .block)) 64} (both {y = leb (length (f .pdu)) 2633} h .0) .0
+  type-in-range = both {y = leb (length (f .block)) 64} (both {y = leb (length (f .pdu)) longestFrame} h .0) .0
 
   new-in-range :
       (ns : Bool)

@@ -12,6 +12,7 @@ use Rattle.tx_receipt.specs.States.{number}
 use Rattle.tx_receipt.specs.Marks.{Mark, marked}
 use Rattle.tx_receipt.specs.declared.TxState.{TxState}
 use Rattle.tx_receipt.specs.declared.TxState.the-variants.{Pending, Discarded, Transmitted, Lost, Acknowledged}
+use Rattle.llc_rule.specs.Limits.{storeBytes}
 use Rattle.llc_rule.specs.Lists.{all, Found, nothing, first, others}
 use Rattle.llc_rule.specs.Sound.{All}
 use Rattle.llc_rule.proofs.Lists.{by-test, both, and-true, all-append, Split, FoundBy}
@@ -171,7 +172,7 @@ module _ (s : State) (store : List ℕ) (ok : Sane s store) where
       → Used ackInRange 64 ds
       → Full ps
       → Used rowInRange 256 rs
-      → length after ≡ 8 * 32256
+      → length after ≡ 8 * storeBytes
       → Sane (relaid s ms us ds ps rs) after
   unfolding relaid
   relaid-sane ms us ds ps rs after m u d places w long =

@@ -15,6 +15,7 @@ use Rattle.llc_pdus.specs.Writes.{longest}
 use Rattle.llc_pdus.specs.declared.Pdu.{Pdu}
 use Rattle.llc_pdus.specs.declared.Pdu.the-variants.{BlUdata, BlAck}
 use Rattle.llc_pdus.proofs.Laws.{header-short}
+use Rattle.llc_rule.specs.Limits.{storePlaces}
 use Rattle.llc_rule.specs.Lists.{any, Found, nothing, first, others}
 use Rattle.llc_rule.specs.Calls.{Request}
 use Rattle.llc_rule.specs.Ranges.{steals, wantsFcs, hasMask, requestInRange}
@@ -69,11 +70,11 @@ length-with-seq-there a b (r ∷ rs) h =
 
 module _ (r : Request) (s : State) (store : List ℕ) (ok : Sane s store) (ssi : r .ssi < 16777216) (h : requestInRange r ≡ true) where
   -- The new entry is in range, and its frame lies within the store.
-  new-in-range : (c k place len : ℕ) (ns : Bool) → place < 96 → entryInRange (entryOf r c k place len ns) ≡ true
+  new-in-range : (c k place len : ℕ) (ns : Bool) → place < storePlaces → entryInRange (entryOf r c k place len ns) ≡ true
   unfolding entryInRange entryOf
   new-in-range c k place len ns inside =
       let t = request-fields r h in
-      rw (lt-ltb (r .ssi) 16777216 ssi, t .type, there-holds {there = hasMask r} (λ e. t .mask), t .receipt, t .block, lt-ltb place 96 inside)
+      rw (lt-ltb (r .ssi) 16777216 ssi, t .type, there-holds {there = hasMask r} (λ e. t .mask), t .receipt, t .block, lt-ltb place storePlaces inside)
 
   sdu-short : length (r .sdu) ≤ longest
   sdu-short = request-lengths r h .1
@@ -83,7 +84,7 @@ module _ (r : Request) (s : State) (store : List ℕ) (ok : Sane s store) (ssi :
 
   message-in-range :
       (c place : ℕ) (ns : Bool) (p : Pdu)
-      → place < 96
+      → place < storePlaces
       → 5 ≤ length (header p)
       → messageInRange (entryOf r c 0 place (length (header p ++ r .sdu)) ns) ≡ true
   unfolding entryOf
@@ -99,7 +100,7 @@ module _ (r : Request) (s : State) (store : List ℕ) (ok : Sane s store) (ssi :
 
   udata-in-range :
       (c k place : ℕ) (p : Pdu)
-      → place < 96
+      → place < storePlaces
       → 4 ≤ length (header p)
       → length (header p) ≤ 5
       → udataInRange (entryOf r c k place (length (header p ++ r .sdu)) false) ≡ true
@@ -117,10 +118,10 @@ module _ (r : Request) (s : State) (store : List ℕ) (ok : Sane s store) (ssi :
   data-header ns nothing = omega arith
   data-header ns (first a ds) = omega arith
 
-  place-inside : s .«n_messages» + s .«n_udata» ≤ 95 → freePlace s < 96
+  place-inside : s .«n_messages» + s .«n_udata» < storePlaces → freePlace s < storePlaces
   place-inside few = let n = sane-ready s store ok .counted in free-place s (omega (arith, n .messages, n .udata)) .0
 
-  store-long : (p : Pdu) → freePlace s < 96 → length (splice store (placeBit (freePlace s)) (header p ++ r .sdu)) ≡ length store
+  store-long : (p : Pdu) → freePlace s < storePlaces → length (splice store (placeBit (freePlace s)) (header p ++ r .sdu)) ≡ length store
   store-long p inside = length-splice store (placeBit (freePlace s)) (header p ++ r .sdu) (omega (arith, ok .long, header-short p, sdu-short, frame-long p))
 
   -- The acknowledgements due less the one that is used up, and the rows with the one that flips.

@@ -1,11 +1,11 @@
 -- What a state and a store hold after a call, as a link, and what of question 1 that needs.
-use Prim.Native.Nat.{ℕ, _+_, _*_, _≤_, _<_}
+use Prim.Native.Nat.{ℕ, _*_, _≤_, _<_}
 use mathlib.Core.Path.{_≡_}
 use mathlib.Core.List.{List}
 use lib.ListN.{length}
 use Rattle.questions.specs.Outcome.{Outcome, accepted, refused}
-use Rattle.llc_pdus.specs.Headers.{adata, lengthOf}
-use Rattle.llc_pdus.specs.Writes.{longest}
+use Rattle.llc_pdus.specs.Writes.{longestSent}
+use Rattle.llc_rule.specs.Limits.{storeBytes, storePlaces}
 use Rattle.llc_rule.specs.Done.{Done, done}
 use Rattle.llc_rule.specs.Link.{Link}
 use Rattle.llc_rule.specs.Sound.{All}
@@ -26,14 +26,14 @@ pub record Counted (s : State) : Type 0 where
   pub acks : length (acksOf s) ≡ s .«n_acks»
   pub rows : length (rowsOf s) ≡ s .«n_rows»
 
--- A frame lies in one of the 96 places, with at most so many bits as the longest frame has.
+-- A frame lies in one of the places, with at most so many bits as the longest frame has.
 abbrev pub Stored : Entry → Type 0
-Stored e = (e .place < 96) × (e .len ≤ lengthOf adata + longest)
+Stored e = (e .place < storePlaces) × (e .len ≤ longestSent)
 
 -- A state and the bits of a store of which question 1 was passed, as far as a call needs it.
 pub record Ready (s : State) (store : List ℕ) : Type 0 where
   pub counted : Counted s
-  pub long : length store ≡ 8 * 32256
+  pub long : length store ≡ 8 * storeBytes
   pub messages : All Stored (messagesOf s)
   pub udata : All Stored (udataOf s)
   pub few : s .«n_messages» ≤ 64

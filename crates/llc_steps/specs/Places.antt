@@ -1,8 +1,9 @@
--- Which of the 96 places of the store a new message takes: the first that no held message has.
+-- Which of the places of the store a new message takes: the first that no held message has.
 use Prim.Native.Nat.{ℕ, zero, suc}
 use mathlib.Core.Bool.{cond}
 use mathlib.Core.List.{List, _++_, map}
 use lib.ListN.{take}
+use Rattle.llc_rule.specs.Limits.{storePlaces}
 use Rattle.llc_rule.specs.Lists.{among}
 use Rattle.llc_state.specs.declared.Entry.{Entry}
 use Rattle.llc_state.specs.declared.State.{State}
@@ -19,4 +20,4 @@ firstFree zero p us = 0
 firstFree (suc n) p us = cond (among p us) (firstFree n (suc p) us) p
 
 unfoldable pub freePlace : State → ℕ
-freePlace s = firstFree 96 0 (usedPlaces s)
+freePlace s = firstFree storePlaces 0 (usedPlaces s)

@@ -5,6 +5,7 @@ use mathlib.Core.Bool.{true}
 use mathlib.Core.List.{List}
 use lib.ListN.{length}
 use Rattle.questions.specs.Outcome.{Outcome, accepted, refused}
+use Rattle.llc_rule.specs.Limits.{storeBytes}
 use Rattle.llc_state.specs.Ranges.{inRange}
 use Rattle.llc_state.specs.declared.State.{State}
 use Rattle.llc_steps.specs.States.{Kept}
@@ -16,7 +17,7 @@ pub record Sane (s : State) (store : List ℕ) : Type 0 where
   pub places : length (s .receipts) ≡ 128
   pub rows : length (s .«link_send_seq») ≡ 256
   pub range : inRange s ≡ true
-  pub long : length store ≡ 8 * 32256
+  pub long : length store ≡ 8 * storeBytes
 
 -- What an accepted call leaves is so.
 abbrev pub SaneAfter : Outcome Kept → Type 0

@@ -6,8 +6,8 @@ use mathlib.Core.Bool.{Bool, true}
 use mathlib.Core.List.{List, [], _∷_}
 use lib.ListN.{length, getD, take}
 use lib.Seq.{getD-take, length-take-le}
-use Rattle.llc_pdus.specs.Headers.{adata, lengthOf}
-use Rattle.llc_pdus.specs.Writes.{longest}
+use Rattle.llc_pdus.specs.Writes.{longestSent}
+use Rattle.llc_rule.specs.Limits.{storePlaces}
 use Rattle.llc_rule.specs.Lists.{all}
 use Rattle.llc_rule.proofs.Lists.{both}
 use Rattle.llc_state.specs.Ranges.{messageInRange, udataInRange}
@@ -18,8 +18,8 @@ use Rattle.llc_state.proofs.InRange.{entry-tells, message-tells, udata-tells}
 pub record Measures (e : Entry) : Type 0 where
   pub receipt : e .receipt < 128
   pub block : e .«block_len» ≤ 64
-  pub place : e .place < 96
-  pub len : e .len ≤ lengthOf adata + longest
+  pub place : e .place < storePlaces
+  pub len : e .len ≤ longestSent
 
 pub message-measures : (e : Entry) → messageInRange e ≡ true → Measures e
 message-measures e h =

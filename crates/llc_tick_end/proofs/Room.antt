@@ -5,6 +5,7 @@ use mathlib.Core.Path.{_≡_, _∙_}
 use mathlib.Core.Bool.{Bool, true}
 use mathlib.Core.List.{List, [], _∷_, map}
 use lib.ListN.{length, take, drop, length-map, length-take}
+use Rattle.llc_rule.specs.Limits.{outputBytes}
 use Rattle.llc_rule.specs.Lists.{all}
 use Rattle.llc_rule.specs.Messages.{Message}
 use Rattle.llc_rule.specs.Records.{allBytes}
@@ -73,5 +74,5 @@ small-in s store h =
           (take (s .«n_udata») (s .«outbound_udata_messages»)) (r .udata);
     }
 
-pub tick-room : (s : State) (store : List ℕ) → Lengths s → inRange s ≡ true → length (allBytes (tickRecords s store)) ≤ 46656
+pub tick-room : (s : State) (store : List ℕ) → Lengths s → inRange s ≡ true → length (allBytes (tickRecords s store)) ≤ outputBytes
 tick-room s store long h = rw (records-in store s) (tick-end-room (linkIn s store) (within-in s store long h) (small-in s store h))

@@ -7,6 +7,7 @@ use mathlib.Core.Bool.{true}
 use mathlib.Core.List.{List, [], _++_}
 use lib.ListN.{length, drop, length-append, length-take}
 use lib.Seq.{length-take-le}
+use Rattle.llc_rule.specs.Limits.{outputBytes}
 use Rattle.llc_rule.specs.Calls.{tickEnd}
 use Rattle.llc_rule.specs.Lists.{all, Visit, walk}
 use Rattle.llc_rule.specs.Records.{allBytes}
@@ -98,7 +99,7 @@ pub record Fourth (store : List ℕ) (s : State) (out : List ℕ) (at : ℕ) : T
   pub entries : all udataInRange (udataOf s) ≡ true
   pub room : at + length (udataBytesOf store (udataOf s)) ≤ length out
 
-module _ (s : State) (store out : List ℕ) (long : Lengths s) (range : inRange s ≡ true) (room : 46656 ≤ length out) (on : s .started ≡ true) where
+module _ (s : State) (store out : List ℕ) (long : Lengths s) (range : inRange s ≡ true) (room : outputBytes ≤ length out) (on : s .started ≡ true) where
   -- Room for all of them.
   sizes :
       length (sentBytesOf store (retransmissions s .out))

@@ -4,6 +4,7 @@ ghost use mathlib.Core.Path.{_≡_};
 ghost use mathlib.Core.Bool.{true};
 ghost use lib.ListN.{length};
 ghost use Rattle.bits.specs.Bits.{bits};
+ghost use Rattle.llc_rule.specs.Limits.{outputBytes, storeBytes};
 ghost use Rattle.llc_rule.specs.Calls.{tickEnd};
 ghost use Rattle.llc_state.specs.Ranges.{inRange};
 ghost use Rattle.llc_steps.specs.Answers.{effect, delivered};
@@ -18,8 +19,8 @@ use llc_steps::Answer;
 /// A tick end.
 pub fn tick_end(state: State, store: &[u8], out: &mut [u8]) -> Answer
     requires { ⌜ inRange state ≡ true ⌝ }
-    requires { ⌜ length (now store) ≡ 32256 ⌝ }
-    requires { ⌜ 46656 ≤ length (now out) ⌝ }
+    requires { ⌜ length (now store) ≡ storeBytes ⌝ }
+    requires { ⌜ outputBytes ≤ length (now out) ⌝ }
     requires { ⌜ state .started ≡ true ⌝ }
     ensures { λ r. ⌜ effect r (bits (now (store .entry))) (now (out .exit)) ≡ delivered state (bits (now (store .entry))) (now (out .entry)) (acts tickEnd state (bits (now (store .entry)))) ⌝ }
 {

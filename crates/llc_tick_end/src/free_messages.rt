@@ -4,6 +4,7 @@ ghost use mathlib.Core.Path.{_≡_};
 ghost use mathlib.Core.Bool.{true};
 ghost use lib.ListN.{length, drop};
 ghost use Rattle.bits.specs.Bits.{bits};
+ghost use Rattle.llc_rule.specs.Limits.{storeBytes};
 ghost use Rattle.llc_rule.specs.Lists.{all, among};
 ghost use Rattle.llc_records.specs.Wrote.{Wrote};
 ghost use Rattle.llc_state.specs.Ranges.{messageInRange};
@@ -22,7 +23,7 @@ pub(crate) fn submit_free_messages_to_umac(
 ) -> Passed
     requires { ⌜ state .«n_messages» ≤ 64 ⌝ }
     requires { ⌜ all messageInRange (messagesOf state) ≡ true ⌝ }
-    requires { ⌜ length (now store) ≡ 32256 ⌝ }
+    requires { ⌜ length (now store) ≡ storeBytes ⌝ }
     requires { ⌜ at + length (sentBytesOf (bits (now store)) (sendings state .out)) ≤ length (now out) ⌝ }
     ensures { λ r. ⌜ r .state ≡ afterSendings state ⌝ }
     ensures { λ r. ⌜ Wrote (now (out .entry)) at (sentBytesOf (bits (now (store .entry))) (sendings state .out)) (now (out .exit)) (r .at) ⌝ }

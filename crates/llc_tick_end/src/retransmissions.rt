@@ -5,6 +5,7 @@ ghost use mathlib.Core.Bool.{true, _&&_};
 ghost use lib.ListN.{length};
 ghost use Rattle.bits.specs.Bits.{bits};
 ghost use Rattle.tdma_time.specs.Slots.{valid};
+ghost use Rattle.llc_rule.specs.Limits.{storeBytes};
 ghost use Rattle.llc_rule.specs.Messages.{overdue as isOverdue, reported};
 ghost use Rattle.llc_records.specs.Wrote.{Wrote};
 ghost use Rattle.llc_state.specs.Ranges.{ifThere, inRange};
@@ -87,7 +88,7 @@ pub(crate) fn submit_retransmissions_to_umac(
     out: &mut [u8],
 ) -> Passed
     requires { ⌜ inRange state ≡ true ⌝ }
-    requires { ⌜ length (now store) ≡ 32256 ⌝ }
+    requires { ⌜ length (now store) ≡ storeBytes ⌝ }
     requires { ⌜ length (sentBytesOf (bits (now store)) (retransmissions state .out)) ≤ length (now out) ⌝ }
     requires { ⌜ state .started ≡ true ⌝ }
     ensures { λ r. ⌜ r .state ≡ afterRetransmissions state ⌝ }

@@ -5,6 +5,7 @@ ghost use mathlib.Core.Bool.{true};
 ghost use mathlib.Core.List.{[]};
 ghost use lib.ListN.{length};
 ghost use Rattle.bits.specs.Bits.{bits};
+ghost use Rattle.llc_rule.specs.Limits.{storeBytes};
 ghost use Rattle.llc_rule.specs.Lists.{all};
 ghost use Rattle.llc_records.specs.Wrote.{Wrote};
 ghost use Rattle.llc_state.specs.Ranges.{udataInRange};
@@ -24,7 +25,7 @@ pub(crate) fn submit_udata_msgs_to_umac(
 ) -> Passed
     requires { ⌜ state .«n_udata» ≤ 32 ⌝ }
     requires { ⌜ all udataInRange (udataOf state) ≡ true ⌝ }
-    requires { ⌜ length (now store) ≡ 32256 ⌝ }
+    requires { ⌜ length (now store) ≡ storeBytes ⌝ }
     requires { ⌜ at + length (udataBytesOf (bits (now store)) (udataOf state)) ≤ length (now out) ⌝ }
     ensures { λ r. ⌜ r .state ≡ withUdata state [] ⌝ }
     ensures { λ r. ⌜ Wrote (now (out .entry)) at (udataBytesOf (bits (now (store .entry))) (udataOf state)) (now (out .exit)) (r .at) ⌝ }

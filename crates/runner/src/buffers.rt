@@ -1,6 +1,13 @@
 // The buffers of a run, of document 01's lengths. Of each its length is what matters.
+ghost use Prim.Native.Nat.{_+_, _*_};
 ghost use mathlib.Core.Path.{_≡_};
 ghost use lib.ListN.{length};
+ghost use Rattle.llc_rule.specs.Limits.{storeBytes, outputBytes};
+use llc::OUTPUT;
+use llc::STORE;
+
+// As many characters as the longest answer has, and as many again.
+const TEXT: usize = 2 * (4 + 3 * OUTPUT);
 
 // The bytes of a line's call, of at most 4,096 digits.
 pub(crate) fn bytes() -> [u8; 2048]
@@ -10,22 +17,22 @@ pub(crate) fn bytes() -> [u8; 2048]
 }
 
 // The link's store.
-pub(crate) fn store() -> [u8; 32256]
-    ensures { λ r. ⌜ 32256 ≡ length r ⌝ }
+pub(crate) fn store() -> [u8; STORE]
+    ensures { λ r. ⌜ storeBytes ≡ length r ⌝ }
 {
-    [0; 32256]
+    [0; STORE]
 }
 
 // The records of a call.
-pub(crate) fn out() -> [u8; 46656]
-    ensures { λ r. ⌜ 46656 ≡ length r ⌝ }
+pub(crate) fn out() -> [u8; OUTPUT]
+    ensures { λ r. ⌜ outputBytes ≡ length r ⌝ }
 {
-    [0; 46656]
+    [0; OUTPUT]
 }
 
-// Text that waits to be written: the longest answer, of 139,972 characters, and as much again.
-pub(crate) fn text() -> [u8; 279944]
-    ensures { λ r. ⌜ 279944 ≡ length r ⌝ }
+// Text that waits to be written.
+pub(crate) fn text() -> [u8; TEXT]
+    ensures { λ r. ⌜ 2 * (4 + 3 * outputBytes) ≡ length r ⌝ }
 {
-    [0; 279944]
+    [0; TEXT]
 }

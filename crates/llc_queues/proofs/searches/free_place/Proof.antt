@@ -4,6 +4,7 @@ use mathlib.Core.Logic.{⊎-elim}
 use mathlib.Core.Bool.{not}
 use mathlib.Core.List.{[]}
 use borrow.Author.Needs.{needs}
+use Rattle.llc_rule.specs.Limits.{storePlaces}
 use Rattle.llc_state.proofs.Lengths.{lengths}
 use Rattle.llc_steps.specs.Places.{freePlace, usedPlaces}
 use Rattle.llc_steps.specs.States.{messagesOf}
@@ -25,10 +26,10 @@ abbrev μ-loop2 : tie.MeasureT-loop2
 μ-loop2 state used₀ i j₀ used j = state .«n_udata» - j
 
 abbrev Inv-loop3 : tie.InvT-loop3
-Inv-loop3 used i j p₀ p = Searching not 96 96 used p
+Inv-loop3 used i j p₀ p = Searching not storePlaces storePlaces used p
 
 abbrev μ-loop3 : tie.MeasureT-loop3
-μ-loop3 used i j p₀ p = 96 - p
+μ-loop3 used i j p₀ p = storePlaces - p
 
 loop-holds : tie.Need-loop-holds Inv-loop μ-loop Inv-loop2 μ-loop2 Inv-loop3 μ-loop3
 loop-holds c = starts unmarked (c .pre .0) (lengths (c .args .t1) (c .good .0) .messages)

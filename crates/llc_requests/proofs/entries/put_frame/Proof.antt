@@ -2,6 +2,7 @@ use Prim.Native.Nat.{_+_, _-_, _*_}
 use mathlib.Core.List.{_++_}
 use borrow.Author.Needs.{needs}
 use lib.ListN.{take, drop}
+use Rattle.llc_rule.specs.Limits.{placeBytes}
 use Rattle.llc_requests.proofs.Stores.{Put, put, length-is, in-range, has-room}
 use Rattle.llc_requests.proofs.entries.put_frame.Statement.{statement}
 use Rattle.llc_requests.proofs.entries.put_frame.Tie as tie
@@ -13,8 +14,8 @@ use Rattle.llc_pdus.proofs.to_bitbuf.Reads as to-bitbuf-reads
 done :
     (c : lts.After-to-bitbuf (to-bitbuf-reads.Asked, to-bitbuf-reads.Learnt) reads.Pre reads.Post)
     → let s = c .before .before .before .before .before in
-    let a = s .args .place * 336 in
-    let k = a + 336 - a in
+    let a = s .args .place * placeBytes in
+    let k = a + placeBytes - a in
     Put (s .args .pdu) (s .args .q) (s .args .bytes .now) (s .args .place) (s .args .store .now) (c .to-bitbuf .result)
     (take a (s .args .store .now) ++ (c .to-bitbuf .last .1 .1 .1 .1 .0 ++ drop k (drop a (s .args .store .now))))
 done c =

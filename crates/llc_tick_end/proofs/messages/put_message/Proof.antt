@@ -9,6 +9,7 @@ use denote.Struct.Declared.{row}
 use denote.Struct.Laws as S
 use lib.ListN.{length, length-map}
 use Rattle.bits.specs.Bits.{bits, part}
+use Rattle.llc_rule.specs.Limits.{placeBits}
 use Rattle.llc_rule.specs.Records.{sentBytes}
 use Rattle.llc_records.specs.Records.{maskIf, sent}
 use Rattle.llc_records.specs.declared.SentRecord.{SentRecord}
@@ -47,11 +48,11 @@ mask-is false m = refl
 
 message-is :
     (k : ℕ) (store : List ℕ) (e : Entry)
-    → sentBytes k (sent (sentOf e) (part (e .block) 0 (e .«block_len»)) (part store (e .place * 2688) (e .len)))
+    → sentBytes k (sent (sentOf e) (part (e .block) 0 (e .«block_len»)) (part store (e .place * placeBits) (e .len)))
     ≡ sentBytes k (sentIn store e)
 unfolding sentIn frameIn
 message-is k store e =
-    let place : e .place * 2688 ≡ placeBit (e .place) = omega arith in
+    let place : e .place * placeBits ≡ placeBit (e .place) = omega arith in
     λ i.
     sentBytes k
     (record {

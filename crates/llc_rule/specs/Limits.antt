@@ -1,0 +1,23 @@
+-- Document 01's lengths of frames, store and output: each number stands here once, and everything else says its name.
+use Prim.Native.Nat.{ℕ, _*_}
+
+-- "Frame up to 2,633": the most bits of a frame that comes in.
+abbrev pub longestFrame : ℕ
+longestFrame = 2633
+
+-- "Frame bits lie in the store, 96 places of 336 bytes."
+abbrev pub storePlaces : ℕ
+storePlaces = 96
+
+abbrev pub placeBytes : ℕ
+placeBytes = 336
+
+abbrev pub placeBits : ℕ
+placeBits = 8 * placeBytes
+
+abbrev pub storeBytes : ℕ
+storeBytes = storePlaces * placeBytes
+
+-- "The output at least 46,656" bytes.
+abbrev pub outputBytes : ℕ
+outputBytes = 46656
