@@ -7,13 +7,14 @@ use Rattle.bits.specs.Bits.{toBits, value}
 use Rattle.fcs.specs.Polynomials.{plus, divisor, rest}
 use Rattle.fcs.specs.Fcs.{start, fcs}
 use Rattle.llc_pdus.specs.Headers.{reading}
+use Rattle.llc_pdus.specs.Writes.{frameBits}
 use Rattle.llc_rule.specs.Received.{received, checked, checks}
 use Rattle.tdma_time.specs.Modulo.{modulo}
 use Rattle.tdma_time.specs.Slots.{valid, slots, timeAt, plus as plusSlots, centred, minus, ahead, forward}
 use Rattle.examples.specs.Table.{table, sameℤ, same, sameOutcome, right}
 
 pub examples : right table ≡ true
-unfolding right sameOutcome same sameℤ table toBits value fcs start plus divisor rest reading received checked checks modulo valid slots timeAt plusSlots centred minus ahead forward
+unfolding right sameOutcome same sameℤ table toBits value fcs start plus divisor rest reading frameBits received checked checks modulo valid slots timeAt plusSlots centred minus ahead forward
 examples = refl
 
 -- None of its rows is missing.

@@ -6,13 +6,13 @@ use mathlib.Core.Bool.{Bool, true, false, and-false}
 use mathlib.Core.List.{List}
 use borrow.Author.Tests.{le-leb, lt-leb}
 use lib.Dec.{leb}
-use lib.ListN.{length}
+use lib.ListN.{length, length-append}
 use Rattle.bits.specs.Bits.{value, part, splice, AllBits}
-use Rattle.bits.proofs.Laws.{length-part, splice-splice}
+use Rattle.bits.proofs.Laws.{length-part, splice-splice, all-append}
 use Rattle.questions.specs.Outcome.{accepted, refused}
-use Rattle.llc_pdus.specs.Headers.{bit, header}
+use Rattle.llc_pdus.specs.Headers.{bit, header, Kind, adata, lengthOf}
 use Rattle.questions.specs.Effect.{effect}
-use Rattle.llc_pdus.specs.Writes.{longest, frame, written}
+use Rattle.llc_pdus.specs.Writes.{longest, longestOf, longestSent, frameBits, frame, written}
 use Rattle.llc_pdus.specs.declared.Pdu.{Pdu}
 use Rattle.llc_pdus.specs.declared.Pdu.the-variants.{BlAdata, BlData, BlUdata, BlAck}
 
@@ -51,6 +51,29 @@ header-small (BlData f s) = omega arith
 header-small (BlUdata f) = omega arith
 header-small (BlAck f r) = omega arith
 
+-- The laws of a frame, for callers: how long it is, for an SDU that is not too long, and that it is a list of bits.
+pub length-frame : (p : Pdu) (sdu : List ℕ) → length (frameBits p sdu) ≡ length (header p) + length sdu
+unfolding frameBits
+length-frame p sdu = length-append (header p) sdu
+
+pub frame-least : (k : Kind) (p : Pdu) (sdu : List ℕ) → lengthOf k ≤ length (header p) → lengthOf k ≤ length (frameBits p sdu)
+frame-least k p sdu h = omega (arith, length-frame p sdu)
+
+pub frame-most : (k : Kind) (p : Pdu) (sdu : List ℕ) → length (header p) ≤ lengthOf k → length sdu ≤ longest → length (frameBits p sdu) ≤ longestOf k
+frame-most k p sdu h short = omega (arith, length-frame p sdu)
+
+pub frame-short : (p : Pdu) (sdu : List ℕ) → length sdu ≤ longest → length (frameBits p sdu) ≤ longestSent
+frame-short p sdu short = frame-most adata p sdu (header-small p) short
+
+pub all-frame : (p : Pdu) (sdu : List ℕ) → AllBits sdu → AllBits (frameBits p sdu)
+unfolding frameBits
+all-frame p sdu all = all-append (header p) sdu (all-header p) all
+
+-- And with a part of bits as its SDU.
+pub length-frame-of : (p : Pdu) (s : List ℕ) (from n : ℕ) → from + n ≤ length s → length (frame p s from n) ≡ length (header p) + n
+length-frame-of p s from n there =
+    length-frame p (part s from n) ∙ ap (λ (k : ℕ). length (header p) + k) (length-part s from n there)
+
 module _ (p : Pdu) (l s : List ℕ) (from n : ℕ) where
   -- Question 5 fails by the length, or by the source; question 8 fails; none does.
   pub too-long : longest < n → written p l s from n ≡ effect (refused 5) l
@@ -62,24 +85,25 @@ module _ (p : Pdu) (l s : List ℕ) (from n : ℕ) where
   pub no-room :
       n ≤ longest
       → from + n ≤ min (length s) (2 ^ 64 - 1)
-      → length l < length (header p) + n
+      → length l < length (frame p s from n)
       → written p l s from n ≡ effect (refused 8) l
   no-room few there short =
-      rw (le-leb n longest few, le-leb (from + n) (min (length s) (2 ^ 64 - 1)) there, lt-leb (length (header p) + n) (length l) short)
+      rw (le-leb n longest few, le-leb (from + n) (min (length s) (2 ^ 64 - 1)) there, lt-leb (length (frame p s from n)) (length l) short)
 
   pub has-room :
       n ≤ longest
       → from + n ≤ min (length s) (2 ^ 64 - 1)
-      → length (header p) + n ≤ length l
-      → written p l s from n ≡ effect (accepted (length (header p) + n)) (splice l 0 (frame p s from n))
+      → length (frame p s from n) ≤ length l
+      → written p l s from n ≡ effect (accepted (length (frame p s from n))) (splice l 0 (frame p s from n))
   has-room few there fits =
-      rw (le-leb n longest few, le-leb (from + n) (min (length s) (2 ^ 64 - 1)) there, le-leb (length (header p) + n) (length l) fits)
+      rw (le-leb n longest few, le-leb (from + n) (min (length s) (2 ^ 64 - 1)) there, le-leb (length (frame p s from n)) (length l) fits)
 
   -- The header, and the SDU behind it, are the frame.
   pub in-two :
       from + n ≤ length s
       → length (header p) + n ≤ length l
       → splice (splice l 0 (header p)) (length (header p)) (part s from n) ≡ splice l 0 (frame p s from n)
+  unfolding frameBits
   in-two there fits =
       let long = length-part s from n there in
       let here : length (header p) ≡ 0 + length (header p) = omega arith in

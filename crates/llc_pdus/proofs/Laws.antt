@@ -13,6 +13,7 @@ use Rattle.questions.proofs.Asked.{accepted-passed}
 use Rattle.llc_pdus.specs.Headers.{bit, header, lengthOf, one, Reading, kindAt, readingOf, reading}
 use Rattle.llc_pdus.specs.Sdus.{headerEnd}
 use Rattle.llc_pdus.specs.Types.{raw, fromRaw, firstBits, typeOf}
+use Rattle.llc_pdus.specs.Writes.{frameBits}
 use Rattle.llc_pdus.specs.declared.Pdu.{Pdu}
 use Rattle.llc_pdus.specs.declared.Pdu.the-variants.{BlAdata, BlData, BlUdata, BlAck}
 use Rattle.llc_pdus.specs.declared.llc_pdu_type.LlcPduType.{LlcPduType}
@@ -104,6 +105,11 @@ header-reads (BlUdata f) sdu =
 header-reads (BlAck f r) sdu =
     let l : List ℕ = 0 ∷ bit f ∷ 1 ∷ 1 ∷ bit r ∷ sdu in
     rw (le-leb 4 (length l) (omega arith), le-leb 5 (length l) (omega arith), one-bit f, one-bit r)
+
+-- So does a frame.
+pub frame-reads : (p : Pdu) (sdu : List ℕ) → reading (frameBits p sdu) ≡ accepted (record { pdu = p; size = length (header p) })
+unfolding frameBits
+frame-reads p sdu = header-reads p sdu
 
 -- A bit, as the bit of its test.
 bit-one : (b : ℕ) → b < 2 → b ≡ bit (eqb b 1)

@@ -3,36 +3,35 @@ use Prim.Native.Nat.{ℕ, _+_, _≤_}
 use native.Mathlib.Omega.{arith}
 use mathlib.Core.Path.{_≡_, _∙_, refl, ap}
 use mathlib.Core.List.{List, _++_}
-use lib.ListN.{length, take, drop, length-append}
+use lib.ListN.{length, take, drop}
 use lib.Seq.{take-at, drop-append-le, drop-at}
 use Rattle.bits.specs.Bits.{part, splice}
 use Rattle.bits.proofs.Laws.{length-part}
 use Rattle.questions.specs.Outcome.{accepted}
 use Rattle.llc_pdus.specs.Headers.{header, reading}
-use Rattle.llc_pdus.specs.Writes.{frame}
+use Rattle.llc_pdus.specs.Writes.{frameBits, frame}
 use Rattle.llc_pdus.specs.declared.Pdu.{Pdu}
-use Rattle.llc_pdus.proofs.Laws.{header-reads}
+use Rattle.llc_pdus.proofs.Laws.{frame-reads}
+use Rattle.llc_pdus.proofs.Framing.{length-frame-of}
 
 module _ (p : Pdu) (l s : List ℕ) (from n : ℕ) (there : from + n ≤ length s) where
-  frame-length : length (frame p s from n) ≡ length (header p) + n
-  frame-length = length-append (header p) (part s from n) ∙ ap (λ (k : ℕ). length (header p) + k) (length-part s from n there)
-
   -- The frame stands in front of the bits that it was written to.
   pub in-front : take (length (header p) + n) (splice l 0 (frame p s from n)) ≡ frame p s from n
-  in-front = take-at (frame p s from n) (drop (0 + length (frame p s from n)) l) (length (header p) + n) frame-length
+  in-front = take-at (frame p s from n) (drop (0 + length (frame p s from n)) l) (length (header p) + n) (length-frame-of p s from n there)
 
   -- It reads as the same PDU.
   pub reads-back :
       reading (take (length (header p) + n) (splice l 0 (frame p s from n)))
       ≡ accepted (record { pdu = p; size = length (header p) })
-  reads-back = ap reading in-front ∙ header-reads p (part s from n)
+  reads-back = ap reading in-front ∙ frame-reads p (part s from n)
 
   -- And the SDU is the same.
   pub sdu-back : part (splice l 0 (frame p s from n)) (length (header p)) n ≡ part s from n
+  unfolding frameBits
   sdu-back =
       let k : ℕ = length (header p) in
       let rest : List ℕ = drop (0 + length (frame p s from n)) l in
-      let long = frame-length in
+      let long = length-frame-of p s from n there in
       ap (take n)
       (drop-append-le k (frame p s from n) rest (omega arith)
       ∙ ap (λ (t : List ℕ). t ++ rest) (drop-at (header p) (part s from n) k refl))

@@ -21,14 +21,18 @@ longestOf k = lengthOf k + longest
 abbrev pub longestSent : ℕ
 longestSent = longestOf adata
 
+-- How a PDU with its SDU looks as a frame: the header, and the SDU behind it.
+unfoldable pub frameBits : Pdu → List ℕ → List ℕ
+frameBits p sdu = header p ++ sdu
+
 -- The frame of a PDU with n bits of s from a place on as its SDU.
 abbrev pub frame : Pdu → List ℕ → ℕ → ℕ → List ℕ
-frame p s from n = header p ++ part s from n
+frame p s from n = frameBits p (part s from n)
 
 -- Writing to the front of the bits l, which answers the frame's length: question 5 asks for the SDU's length and whether its
 -- bits lie in s, up to the last place that a number of 64 bits can name; question 8 whether the frame fits.
 abbrev pub written : Pdu → List ℕ → List ℕ → ℕ → ℕ → Effect ℕ
 written p l s from n =
     asked 5 (leb n longest && leb (from + n) (min (length s) (2 ^ 64 - 1))) l
-    (asked 8 (leb (length (header p) + n) (length l)) l
-    (effect (accepted (length (header p) + n)) (splice l 0 (frame p s from n))))
+    (asked 8 (leb (length (frame p s from n)) (length l)) l
+    (effect (accepted (length (frame p s from n))) (splice l 0 (frame p s from n))))

@@ -10,10 +10,9 @@ use lib.ListN.{length, take, getD, set, length-take, List·getD-eq-default}
 use lib.Seq.{length-take-le}
 use Rattle.bits.specs.Bits.{splice}
 use Rattle.questions.specs.Outcome.{accepted}
-use Rattle.llc_pdus.specs.Headers.{header}
 use Rattle.llc_pdus.specs.declared.Pdu.{Pdu}
 use Rattle.llc_pdus.specs.declared.Pdu.the-variants.{BlAdata, BlData}
-use Rattle.llc_pdus.specs.Writes.{longest}
+use Rattle.llc_pdus.specs.Writes.{longest, frameBits}
 use Rattle.llc_rule.specs.Limits.{storePlaces}
 use Rattle.llc_rule.specs.Lists.{find, others}
 use Rattle.llc_rule.specs.Calls.{Request}
@@ -156,8 +155,8 @@ pub put-acknowledged :
     → ns ≡ getD (rowsOf s) row noRow .vs
     → pdu ≡ cond (ltb ack (s .«n_acks»)) (BlAdata (wantsFcs r) (getD (acksOf s) ack noAck .nr) ns) (BlData (wantsFcs r) ns)
     → place ≡ freePlace s
-    → after ≡ splice before (placeBit place) (header pdu ++ r .sdu)
-    → len ≡ length (header pdu ++ r .sdu)
+    → after ≡ splice before (placeBit place) (frameBits pdu (r .sdu))
+    → len ≡ length (frameBits pdu (r .sdu))
     → e ≡ entryOf r carrier 0 place len ns
     → s₁ ≡ withAcks s (without ack (acksOf s))
     → s₂ ≡ withMessages s₁ (messagesOf s₁ ++ (e ∷ []))
@@ -172,7 +171,7 @@ put-acknowledged r s before after row {carrier} {ack} {ns} {pdu} {place} {len} {
     let p : ScheduledOutAck → Bool = ackOn (r .ssi) (carrierFor r s) in
     let ds : List ScheduledOutAck = acksOf s in
     let seq : Bool = seqOf (r .ssi) (rowsOf s) in
-    let frame : Pdu → List ℕ = λ (t : Pdu). header t ++ r .sdu in
+    let frame : Pdu → List ℕ = λ (t : Pdu). frameBits t (r .sdu) in
     let places : List ReceiptPlace = set (s .receipts) (r .receipt) (pendingPlace true) in
     let count : length ds ≡ s .«n_acks» =
     length-take-le (s .«n_acks») (s .«scheduled_out_acks») (omega (arith, long .acks, head .acks))
@@ -221,8 +220,8 @@ pub put-unacknowledged :
     → inRange s ≡ true
     → carrier ≡ carrierFor r s
     → place ≡ freePlace s
-    → after ≡ splice before (placeBit place) (header pdu ++ r .sdu)
-    → len ≡ length (header pdu ++ r .sdu)
+    → after ≡ splice before (placeBit place) (frameBits pdu (r .sdu))
+    → len ≡ length (frameBits pdu (r .sdu))
     → e ≡ entryOf r carrier link place len false
     → s₁ ≡ withAcks s (without ack (acksOf s))
     → s₂ ≡ withUdata s₁ (udataOf s₁ ++ (e ∷ []))
@@ -234,7 +233,7 @@ put-unacknowledged r s before after link pdu ack {carrier} {place} {len} {e} {s�
     carrier-is place-is after-is len-is e-is s₁-is s₂-is s₃-is x-is =
     let head = range-tells s ok .head in
     let ds : List ScheduledOutAck = without ack (acksOf s) in
-    let pdus : List ℕ = header pdu ++ r .sdu in
+    let pdus : List ℕ = frameBits pdu (r .sdu) in
     let places : List ReceiptPlace = set (s .receipts) (r .receipt) (pendingPlace false) in
     let entry : e ≡ entryOf r (carrierFor r s) link (freePlace s) (length pdus) false =
     e-is ∙ (λ i. entryOf r (carrier-is i) link (place-is i) (len-is i) false)

@@ -1,20 +1,18 @@
 -- A frame that was written to the front of a part of the store, as the store has it.
-use Prim.Native.Nat.{ℕ, _+_, _-_, _*_, _^_, _≤_, _<_, min}
+use Prim.Native.Nat.{ℕ, _+_, _-_, _*_, _≤_, _<_}
 use native.Mathlib.Omega.{arith}
 use mathlib.Core.Path.{_≡_, _∙_, sym, ap}
 use mathlib.Core.List.{List, _++_, append-assoc}
-use borrow.Author.Tests.{le-leb}
-use lib.ListN.{length, take, drop, length-append, length-drop, take-append-drop}
+use lib.ListN.{length, take, drop, length-drop, take-append-drop}
 use lib.Seq.{take-all, drop-append-le, drop-drop, length-take-le}
 use Rattle.bits.specs.Bits.{bits, splice}
 use Rattle.bits.proofs.Laws.{bits-append, length-bits, drop-bits, take-bits}
 use Rattle.questions.specs.Outcome.{accepted}
 use Rattle.questions.specs.Effect.{effect, Effect}
 use Rattle.llc_pdus.specs.Answers.{written}
-use Rattle.llc_pdus.specs.Headers.{header}
-use Rattle.llc_pdus.specs.Writes.{longest, written as writtenOf}
+use Rattle.llc_pdus.specs.Writes.{longest, longestSent, frameBits, written as writtenOf}
 use Rattle.llc_pdus.specs.declared.Pdu.{Pdu}
-use Rattle.llc_pdus.proofs.Laws.{header-short}
+use Rattle.llc_pdus.proofs.Framing.{frame-short, has-room as all-written}
 use Rattle.llc_pdus.specs.declared.Written.{Written}
 use Rattle.llc_rule.specs.Limits.{placeBytes, storeBytes, storePlaces}
 use Rattle.llc_calls.specs.Decoded.{requestOf, RequestInside}
@@ -51,24 +49,10 @@ whole xs ys a k vs inside fits e =
     ∙ ap (λ (t : List ℕ). vs ++ t) rest)
     ∙ ap (λ (t : List ℕ). t ++ (vs ++ drop (8 * a + length vs) (bits xs))) (sym (take-bits a xs))
 
--- What is not too long, is there and has room is written.
-all-written :
-    (p : Pdu) (l s : List ℕ) (n : ℕ)
-    → n ≤ longest
-    → n ≤ length s
-    → length (header p) + n ≤ length l
-    → writtenOf p l s 0 n ≡ effect (accepted (length (header p) + n)) (splice l 0 (header p ++ take n s))
-all-written p l s n few there room =
-    rw (
-      le-leb n longest few,
-      le-leb (0 + n) (min (length s) (2 ^ 64 - 1)) (omega arith),
-      le-leb (length (header p) + n) (length l) room,
-    )
-
 -- The frame of a PDU and a request, written to a place of the store: the answer and the bits after it.
 pub record Put (p : Pdu) (q : RequestCall) (b : List ℕ) (place : ℕ) (before : List ℕ) (r : Written) (after : List ℕ) : Type 0 where
-  pub answer : written r ≡ accepted (length (header p ++ requestOf q b .sdu))
-  pub store : bits after ≡ splice (bits before) (placeBit place) (header p ++ requestOf q b .sdu)
+  pub answer : written r ≡ accepted (length (frameBits p (requestOf q b .sdu)))
+  pub store : bits after ≡ splice (bits before) (placeBit place) (frameBits p (requestOf q b .sdu))
 
 pub put :
     (p : Pdu) (q : RequestCall) (b : List ℕ) (place : ℕ) (xs ys : List ℕ) (r : Written)
@@ -98,19 +82,16 @@ put p q b place xs ys r long there few inside e =
     let left-over = length-drop (q .sdu) b in
     let rest : take (length b - q .sdu) s ≡ s = take-all (length b - q .sdu) s (omega arith) in
     let bits-there : n ≤ length (bits s) = omega (arith, length-bits s, inside .parts .bitsIn) in
-    let short = header-short p in
-    let frame : List ℕ = header p ++ take n (bits s) in
-    let frame-long : length frame ≡ length (header p) + n =
-    length-append (header p) (take n (bits s)) ∙ ap (λ (m : ℕ). length (header p) + m) (bits-length (inside .parts))
-    in
-    let done : effect (written r) (bits ys) ≡ effect (accepted (length (header p) + n)) (splice (bits mid) 0 frame) =
+    let frame : List ℕ = frameBits p (take n (bits s)) in
+    let short : length frame ≤ longestSent = frame-short p (take n (bits s)) (omega (arith, bits-length (inside .parts))) in
+    let done : effect (written r) (bits ys) ≡ effect (accepted (length frame)) (splice (bits mid) 0 frame) =
     e
     ∙ ap (λ (t : List ℕ). writtenOf p (bits mid) (bits t) 0 n) rest
-    ∙ all-written p (bits mid) (bits s) n few bits-there (omega arith)
+    ∙ all-written p (bits mid) (bits s) 0 n few (omega arith) (omega arith)
     in
     let at : 8 * a ≡ placeBit place = omega arith in
     record {
-      answer = ap (λ (t : Effect ℕ). t .answer) done ∙ ap accepted (sym frame-long);
+      answer = ap (λ (t : Effect ℕ). t .answer) done;
       store =
           whole xs ys a k frame (omega arith) (omega arith) (ap (λ (t : Effect ℕ). t .bits) done)
           ∙ ap (λ (m : ℕ). splice (bits xs) m frame) at;
@@ -118,7 +99,7 @@ put p q b place xs ys r long there few inside e =
 
 -- The code knows the answer by its case.
 module _ {p : Pdu} {q : RequestCall} {b : List ℕ} {place : ℕ} {before : List ℕ} {r : Written} {after : List ℕ} (d : Put p q b place before r after) where
-  pub length-is : (n : ℕ) → r ≡ Written.Bits n → n ≡ length (header p ++ requestOf q b .sdu)
+  pub length-is : (n : ℕ) → r ≡ Written.Bits n → n ≡ length (frameBits p (requestOf q b .sdu))
   length-is n e = cc (d .answer)
 
   pub in-range : r ≡ Written.OutOfRange → ⊥

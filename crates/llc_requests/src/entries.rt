@@ -2,11 +2,9 @@
 ghost use Prim.Native.Nat.{_≤_, _<_};
 ghost use mathlib.Core.Path.{_≡_};
 ghost use mathlib.Core.Bool.{false};
-ghost use mathlib.Core.List.{_++_};
 ghost use lib.ListN.{length};
 ghost use Rattle.bits.specs.Bits.{bits, splice};
-ghost use Rattle.llc_pdus.specs.Headers.{header};
-ghost use Rattle.llc_pdus.specs.Writes.{longest};
+ghost use Rattle.llc_pdus.specs.Writes.{longest, frameBits};
 ghost use Rattle.llc_rule.specs.Limits.{storeBytes, storePlaces};
 ghost use Rattle.llc_calls.specs.Decoded.{requestOf, RequestInside};
 ghost use Rattle.llc_state.specs.View.{placeBit};
@@ -83,8 +81,8 @@ pub(crate) fn put_frame(
     requires { ⌜ place < storePlaces ⌝ }
     requires { ⌜ q .«sdu_len» ≤ longest ⌝ }
     requires { ⌜ RequestInside q (now bytes) ⌝ }
-    ensures { λ r. ⌜ bits (now (store .exit)) ≡ splice (bits (now (store .entry))) (placeBit place) (header pdu ++ requestOf q (now (bytes .entry)) .sdu) ⌝ }
-    ensures { λ r. ⌜ r ≡ length (header pdu ++ requestOf q (now (bytes .entry)) .sdu) ⌝ }
+    ensures { λ r. ⌜ bits (now (store .exit)) ≡ splice (bits (now (store .entry))) (placeBit place) (frameBits pdu (requestOf q (now (bytes .entry)) .sdu)) ⌝ }
+    ensures { λ r. ⌜ r ≡ length (frameBits pdu (requestOf q (now (bytes .entry)) .sdu)) ⌝ }
 {
     let first = place * PLACE_BYTES;
     let end = first + PLACE_BYTES;

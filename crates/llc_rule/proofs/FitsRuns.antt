@@ -8,14 +8,14 @@ use mathlib.Core.List.{List, [], _∷_, map}
 use mathlib.Core.Option.{none, some}
 use borrow.Author.Tests.{leb-true, ltb-true}
 use lib.Dec.{eqb, leb}
-use lib.ListN.{drop, length-append, length-drop}
+use lib.ListN.{drop, length-drop}
 use Rattle.bits.proofs.Laws as Bits
 use Rattle.questions.specs.Outcome.{Outcome, accepted, refused, ask}
-use Rattle.llc_pdus.specs.Headers.{Reading, reading, hasFcs, header}
+use Rattle.llc_pdus.specs.Headers.{Reading, reading, hasFcs}
 use Rattle.llc_pdus.specs.declared.Pdu.{Pdu}
 use Rattle.llc_pdus.specs.declared.Pdu.the-variants.{BlAdata, BlData, BlUdata, BlAck}
 use Rattle.llc_pdus.proofs.Laws.{header-short}
-use Rattle.llc_pdus.proofs.Framing.{all-header}
+use Rattle.llc_pdus.proofs.Framing.{all-header, frame-short, all-frame}
 use Rattle.llc_rule.specs.Calls.{Call, start, tickStart, tickEnd, dataRequest, unitdataRequest, frame, report, release, Request, Frame, parsed}
 use Rattle.llc_rule.specs.Ranges.{hasMask, requestInRange, frameInRange, inRange}
 use Rattle.llc_rule.specs.Records.{Record, acknowledged, unacknowledged}
@@ -65,7 +65,6 @@ unfolding sentOf
 sent-fits r carrier link p b e hc hl =
     let t = request-fields r e in
     let n = request-lengths r e in
-    let short = header-short p in
     record {
       ssi = b .ssi;
       type = let k = type-at-most (r .type) (t .type) in omega arith;
@@ -78,8 +77,8 @@ sent-fits r carrier link p b e hc hl =
       block = omega (arith, n .0);
       pdu =
           record {
-            bits = Bits.all-append (header p) (r .sdu) (all-header p) (b .sdu);
-            count = omega (arith, length-append (header p) (r .sdu), n .1);
+            bits = all-frame p (r .sdu) (b .sdu);
+            count = omega (arith, frame-short p (r .sdu) (n .1));
           };
     }
 

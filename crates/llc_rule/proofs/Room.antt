@@ -9,9 +9,9 @@ use lib.Dec.{ltb}
 use lib.ListN.{length, drop, length-append, length-drop}
 use Rattle.questions.specs.Outcome.{Outcome, accepted, refused, ask}
 use Rattle.tdma_time.specs.declared.TdmaTime.{TdmaTime}
-use Rattle.llc_pdus.specs.Headers.{Reading, reading, hasFcs, header}
+use Rattle.llc_pdus.specs.Headers.{Reading, reading, hasFcs}
 use Rattle.llc_pdus.specs.declared.Pdu.{Pdu}
-use Rattle.llc_pdus.proofs.Laws.{header-short}
+use Rattle.llc_pdus.proofs.Framing.{frame-short}
 use Rattle.llc_pdus.specs.declared.Pdu.the-variants.{BlAdata, BlData, BlUdata, BlAck}
 use Rattle.llc_rule.specs.Limits.{longestFrame, outputBytes}
 use Rattle.llc_rule.specs.Lists.{Visit, walk, among}
@@ -289,8 +289,7 @@ pub sent-small : (r : Request) (carrier link : ℕ) (p : Pdu) → requestInRange
 unfolding sentOf
 sent-small r carrier link p e =
     let n = request-lengths r e in
-    let m = header-short p in
-    record { block = n .0; pdu = rw (length-append (header p) (r .sdu)) (omega arith) }
+    record { block = n .0; pdu = frame-short p (r .sdu) (n .1) }
 
 -- Nothing is asked of carriers and due acknowledgements.
 abbrev SmallHeld : Link → Type 0

@@ -17,6 +17,7 @@ use Rattle.bits.specs.Bits.{toBits, value, bits}
 use Rattle.fcs.specs.Polynomials.{plus, divisor, rest}
 use Rattle.fcs.specs.Fcs.{start, fcs}
 use Rattle.llc_pdus.specs.Headers.{reading}
+use Rattle.llc_pdus.specs.Writes.{frameBits}
 use Rattle.tdma_time.specs.Modulo.{modulo}
 use Rattle.tdma_time.specs.Slots.{slots, timeAt, plus as plusSlots, centred, minus, valid}
 use Rattle.llc_rule.specs.Lists.{any, find, walk}
@@ -76,7 +77,7 @@ spell (x ∷ xs) (r ∷ rs) = same x (bytes r) && spell xs rs
 unfoldable pub exchanges : Link → List Told → List Exchange
 unfolding toBits value bits plus divisor rest start fcs reading modulo slots timeAt plusSlots centred minus valid any find
     walk fromBytes toBytes filledFrom requestIn frameIn tagOf inner filled parsed requestInRange frameInRange inRange checks
-    checked received upward overdue slotBefore replyTo sentOf noReceipts new startedWith bitOf withBit dueFor rowFor
+    checked received upward overdue slotBefore replyTo frameBits sentOf noReceipts new startedWith bitOf withBit dueFor rowFor
     withAcknowledged withUnacknowledged withStolen onData onUnitdata awaiting answeredBy onReceived onFrame held waits
     onReport onRelease retransmission firstSending retransmissions firstSendings onTickEnd act called step run
 exchanges l ts = run l (map (λ (t : Told). t .call) ts)

@@ -1,7 +1,7 @@
 -- What the link and the one-address rule both keep: messages, due acknowledgements and receipts.
 use Prim.Native.Nat.{ℕ, _-_, _^_}
 use mathlib.Core.Bool.{Bool, true, false, cond, _&&_, _||_}
-use mathlib.Core.List.{List, _++_}
+use mathlib.Core.List.{List}
 use mathlib.Core.Option.{Option, none, some}
 use lib.Dec.{eqb, leb}
 use lib.IntN.{ℤ, pos, negsuc}
@@ -14,6 +14,7 @@ use Rattle.tx_receipt.specs.Marks.{Mark}
 use Rattle.tx_receipt.specs.declared.TxState.the-variants.{Pending, Discarded, Transmitted}
 use Rattle.tx_receipt.specs.declared.TxReceipt.{TxReceipt}
 use Rattle.llc_pdus.specs.Headers.{header}
+use Rattle.llc_pdus.specs.Writes.{frameBits}
 use Rattle.llc_pdus.specs.declared.Pdu.{Pdu}
 use Rattle.llc_pdus.specs.declared.Pdu.the-variants.{BlAck}
 use Rattle.llc_rule.specs.Calls.{Request}
@@ -138,5 +139,5 @@ sentOf r carrier link p =
       mask = cond (hasMask r) (some (r .mask)) none;
       receipt = r .receipt;
       block = r .block;
-      pdu = header p ++ r .sdu;
+      pdu = frameBits p (r .sdu);
     }

@@ -7,15 +7,14 @@ use mathlib.Core.List.{List, [], _∷_, _++_, map}
 use mathlib.Core.Option.{none, some}
 use borrow.Author.Tests.{ltb-true}
 use lib.Dec.{eqb, ltb}
-use lib.ListN.{length, set, take, replicate, length-map, length-append}
+use lib.ListN.{length, set, take, replicate, length-map}
 use lib.Seq.{take-append-seam}
 use Rattle.bits.specs.Bits.{splice}
 use Rattle.questions.specs.Outcome.{Outcome, accepted, ask}
 use Rattle.tx_receipt.specs.declared.TxReceipt.{TxReceipt}
-use Rattle.llc_pdus.specs.Headers.{header}
-use Rattle.llc_pdus.specs.Writes.{longest}
+use Rattle.llc_pdus.specs.Writes.{longest, frameBits}
 use Rattle.llc_pdus.specs.declared.Pdu.{Pdu}
-use Rattle.llc_pdus.proofs.Laws.{header-short}
+use Rattle.llc_pdus.proofs.Framing.{frame-short}
 use Rattle.llc_pdus.specs.declared.Pdu.the-variants.{BlUdata, BlAck}
 use Rattle.llc_rule.specs.Limits.{placeBits, storePlaces}
 use Rattle.llc_rule.specs.Lists.{Found, nothing, first, others}
@@ -83,8 +82,8 @@ record Placed (s : State) (store : List ℕ) (pdu : List ℕ) (after : List ℕ)
 module _ (r : Request) (s : State) (store : List ℕ) (short : length (r .block) ≤ 64) where
   new-sent :
       (c k : ℕ) (p : Pdu) (ns : Bool) (after : List ℕ)
-      → Placed s store (header p ++ r .sdu) after
-      → sentIn after (entryOf r c k (freePlace s) (length (header p ++ r .sdu)) ns) ≡ sentOf r c k p
+      → Placed s store (frameBits p (r .sdu)) after
+      → sentIn after (entryOf r c k (freePlace s) (length (frameBits p (r .sdu))) ns) ≡ sentOf r c k p
   unfolding sentIn entryOf sentOf frameIn
   new-sent c k p ns after ok =
       λ i.
@@ -99,7 +98,7 @@ module _ (r : Request) (s : State) (store : List ℕ) (short : length (r .block)
         mask = cond (Rattle.llc_rule.specs.Ranges.hasMask r) (some (r .mask)) none;
         receipt = r .receipt;
         block = take-append-seam (r .block) (replicate (64 - length (r .block)) 0) i;
-        pdu = ok .there (length (header p ++ r .sdu)) refl i;
+        pdu = ok .there (length (frameBits p (r .sdu))) refl i;
       }
 
   ack-for-in : Step.dueFor r (linkIn s store) ≡ mapFound dueIn (ackFor r s)
@@ -155,21 +154,21 @@ module _ (r : Request) (s : State) (store : List ℕ) (short : length (r .block)
 
   new-message :
       (c k : ℕ) (p : Pdu) (ns : Bool) (after : List ℕ)
-      → Placed s store (header p ++ r .sdu) after
-      → messageIn after (entryOf r c k (freePlace s) (length (header p ++ r .sdu)) ns) ≡ Rule.waiting (sentOf r c k p) ns
+      → Placed s store (frameBits p (r .sdu)) after
+      → messageIn after (entryOf r c k (freePlace s) (length (frameBits p (r .sdu))) ns) ≡ Rule.waiting (sentOf r c k p) ns
   unfolding messageIn entryOf
   new-message c k p ns after ok =
       λ i. record { sent = new-sent c k p ns after ok i; ns = ns; submitted = false; done = none; resends = 0 }
 
   with-acknowledged-in :
-      Placed s store (header (dataPdu r (seqOf (r .ssi) (rowsOf s)) (ackFor r s)) ++ r .sdu) (withAcknowledged r s store .store)
+      Placed s store (frameBits (dataPdu r (seqOf (r .ssi) (rowsOf s)) (ackFor r s)) (r .sdu)) (withAcknowledged r s store .store)
       → linkIn (withAcknowledged r s store .state) (withAcknowledged r s store .store) ≡ Step.withAcknowledged r (linkIn s store)
   unfolding withAcknowledged Step.withAcknowledged linkIn
   with-acknowledged-in ok =
       let ns : Bool = seqOf (r .ssi) (rowsOf s) in
       let c : ℕ = carrierFor r s in
       let p : Pdu = dataPdu r ns (ackFor r s) in
-      let pdu : List ℕ = header p ++ r .sdu in
+      let pdu : List ℕ = frameBits p (r .sdu) in
       let after : List ℕ = splice store (placeBit (freePlace s)) pdu in
       let e : Entry = entryOf r c 0 (freePlace s) (length pdu) ns in
       let bit : ns ≡ Link.bitOf (r .ssi) (map rowIn (rowsOf s)) = sym (seq-in (r .ssi) (rowsOf s)) in
@@ -200,13 +199,13 @@ module _ (r : Request) (s : State) (store : List ℕ) (short : length (r .block)
 
   with-unacknowledged-in :
       (k : ℕ) (p : Pdu) (ds : List ScheduledOutAck)
-      → Placed s store (header p ++ r .sdu) (withUnacknowledged r k p ds s store .store)
+      → Placed s store (frameBits p (r .sdu)) (withUnacknowledged r k p ds s store .store)
       → linkIn (withUnacknowledged r k p ds s store .state) (withUnacknowledged r k p ds s store .store)
       ≡ Step.withUnacknowledged r k p (map dueIn ds) (linkIn s store)
   unfolding withUnacknowledged Step.withUnacknowledged linkIn
   with-unacknowledged-in k p ds ok =
       let c : ℕ = carrierFor r s in
-      let pdu : List ℕ = header p ++ r .sdu in
+      let pdu : List ℕ = frameBits p (r .sdu) in
       let after : List ℕ = splice store (placeBit (freePlace s)) pdu in
       let e : Entry = entryOf r c k (freePlace s) (length pdu) false in
       let sents =
@@ -249,8 +248,8 @@ pub ask-same : {A : Type 0} (n : ℕ) {b c : Bool} {x y : Outcome A} → b ≡ c
 ask-same n {b} {c} {x} {y} e f = ap (λ (t : Bool). ask n b x) e ∙ by-test b (λ t. rw (← e, t) (f t)) (λ t. rw (← e, t))
 
 module _ (r : Request) (s : State) (store : List ℕ) (ok : Ready s store) (block : length (r .block) ≤ 64) (sdu : length (r .sdu) ≤ longest) where
-  pdu-short : (p : Pdu) → length (header p ++ r .sdu) ≤ placeBits
-  pdu-short p = omega (arith, length-append (header p) (r .sdu), header-short p)
+  pdu-short : (p : Pdu) → length (frameBits p (r .sdu)) ≤ placeBits
+  pdu-short p = omega (arith, frame-short p (r .sdu) sdu)
 
   receipt-in : receiptFree r s ≡ Step.receiptFree r (linkIn s store)
   unfolding linkIn
@@ -282,7 +281,7 @@ module _ (r : Request) (s : State) (store : List ℕ) (ok : Ready s store) (bloc
   unacknowledged-kept k p ds room =
       ap (λ (l : Link.Link). accepted (done l []))
       (with-unacknowledged-in r s store block k p ds
-      (placed s store (header p ++ r .sdu) ok (omega (arith, ltb-true (s .«n_udata») 32 room, ok .few)) (pdu-short p)))
+      (placed s store (frameBits p (r .sdu)) ok (omega (arith, ltb-true (s .«n_udata») 32 room, ok .few)) (pdu-short p)))
 
   acknowledged-kept :
       ltb (s .«n_messages») 64 ≡ true
@@ -292,7 +291,7 @@ module _ (r : Request) (s : State) (store : List ℕ) (ok : Ready s store) (bloc
       let p : Pdu = dataPdu r (seqOf (r .ssi) (rowsOf s)) (ackFor r s) in
       ap (λ (l : Link.Link). accepted (done l []))
       (with-acknowledged-in r s store block
-      (placed s store (header p ++ r .sdu) ok (omega (arith, ltb-true (s .«n_messages») 64 room, ok .fewToo)) (pdu-short p)))
+      (placed s store (frameBits p (r .sdu)) ok (omega (arith, ltb-true (s .«n_messages») 64 room, ok .fewToo)) (pdu-short p)))
 
   stolen-kept :
       (x : Found ScheduledOutAck)

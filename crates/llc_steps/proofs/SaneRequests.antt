@@ -3,18 +3,18 @@ use Prim.Native.Nat.{ℕ, suc, _+_, _≤_, _<_}
 use native.Mathlib.Omega.{arith}
 use mathlib.Core.Path.{_≡_, _∙_, refl}
 use mathlib.Core.Bool.{Bool, true, false, not, false≢true}
-use mathlib.Core.List.{List, [], _∷_, _++_}
+use mathlib.Core.List.{List, [], _∷_}
 use borrow.Author.Tests.{ltb-true, lt-ltb}
 use lib.Dec.{eqb, ltb}
-use lib.ListN.{length, length-append}
+use lib.ListN.{length}
 use Rattle.bits.specs.Bits.{splice}
 use Rattle.bits.proofs.Laws.{length-splice}
 use Rattle.questions.specs.Outcome.{accepted}
-use Rattle.llc_pdus.specs.Headers.{header}
-use Rattle.llc_pdus.specs.Writes.{longest}
+use Rattle.llc_pdus.specs.Headers.{header, bdata, udata, ack, lengthOf}
+use Rattle.llc_pdus.specs.Writes.{longest, frameBits}
 use Rattle.llc_pdus.specs.declared.Pdu.{Pdu}
 use Rattle.llc_pdus.specs.declared.Pdu.the-variants.{BlUdata, BlAck}
-use Rattle.llc_pdus.proofs.Laws.{header-short}
+use Rattle.llc_pdus.proofs.Framing.{frame-least, frame-most, frame-short}
 use Rattle.llc_rule.specs.Limits.{storePlaces}
 use Rattle.llc_rule.specs.Lists.{any, Found, nothing, first, others}
 use Rattle.llc_rule.specs.Calls.{Request}
@@ -79,21 +79,18 @@ module _ (r : Request) (s : State) (store : List ℕ) (ok : Sane s store) (ssi :
   sdu-short : length (r .sdu) ≤ longest
   sdu-short = request-lengths r h .1
 
-  frame-long : (p : Pdu) → length (header p ++ r .sdu) ≡ length (header p) + length (r .sdu)
-  frame-long p = length-append (header p) (r .sdu)
-
   message-in-range :
       (c place : ℕ) (ns : Bool) (p : Pdu)
       → place < storePlaces
-      → 5 ≤ length (header p)
-      → messageInRange (entryOf r c 0 place (length (header p ++ r .sdu)) ns) ≡ true
+      → lengthOf bdata ≤ length (header p)
+      → messageInRange (entryOf r c 0 place (length (frameBits p (r .sdu))) ns) ≡ true
   unfolding entryOf
   message-in-range c place ns p inside low =
       message-holds _
       (record {
-        entry = new-in-range c 0 place (length (header p ++ r .sdu)) ns inside;
-        low = omega (arith, low, frame-long p);
-        high = omega (arith, header-short p, sdu-short, frame-long p);
+        entry = new-in-range c 0 place (length (frameBits p (r .sdu))) ns inside;
+        low = frame-least bdata p (r .sdu) low;
+        high = frame-short p (r .sdu) sdu-short;
         count = omega arith;
         done = λ e. clash e refl;
       })
@@ -101,28 +98,28 @@ module _ (r : Request) (s : State) (store : List ℕ) (ok : Sane s store) (ssi :
   udata-in-range :
       (c k place : ℕ) (p : Pdu)
       → place < storePlaces
-      → 4 ≤ length (header p)
-      → length (header p) ≤ 5
-      → udataInRange (entryOf r c k place (length (header p ++ r .sdu)) false) ≡ true
+      → lengthOf udata ≤ length (header p)
+      → length (header p) ≤ lengthOf ack
+      → udataInRange (entryOf r c k place (length (frameBits p (r .sdu))) false) ≡ true
   unfolding entryOf
   udata-in-range c k place p inside low high =
       udata-holds _
       (record {
-        entry = new-in-range c k place (length (header p ++ r .sdu)) false inside;
-        low = omega (arith, low, frame-long p);
-        high = omega (arith, high, sdu-short, frame-long p);
+        entry = new-in-range c k place (length (frameBits p (r .sdu))) false inside;
+        low = frame-least udata p (r .sdu) low;
+        high = frame-most ack p (r .sdu) high sdu-short;
       })
 
   -- BL-DATA and BL-ADATA.
-  data-header : (ns : Bool) (x : Found ScheduledOutAck) → 5 ≤ length (header (dataPdu r ns x))
+  data-header : (ns : Bool) (x : Found ScheduledOutAck) → lengthOf bdata ≤ length (header (dataPdu r ns x))
   data-header ns nothing = omega arith
   data-header ns (first a ds) = omega arith
 
   place-inside : s .«n_messages» + s .«n_udata» < storePlaces → freePlace s < storePlaces
   place-inside few = let n = sane-ready s store ok .counted in free-place s (omega (arith, n .messages, n .udata)) .0
 
-  store-long : (p : Pdu) → freePlace s < storePlaces → length (splice store (placeBit (freePlace s)) (header p ++ r .sdu)) ≡ length store
-  store-long p inside = length-splice store (placeBit (freePlace s)) (header p ++ r .sdu) (omega (arith, ok .long, header-short p, sdu-short, frame-long p))
+  store-long : (p : Pdu) → freePlace s < storePlaces → length (splice store (placeBit (freePlace s)) (frameBits p (r .sdu))) ≡ length store
+  store-long p inside = length-splice store (placeBit (freePlace s)) (frameBits p (r .sdu)) (omega (arith, ok .long, frame-short p (r .sdu) sdu-short))
 
   -- The acknowledgements due less the one that is used up, and the rows with the one that flips.
   acks-but : Used ackInRange 64 (others (ackFor r s) (acksOf s))
@@ -163,8 +160,8 @@ module _ (r : Request) (s : State) (store : List ℕ) (ok : Sane s store) (ssi :
 
   unacknowledged-sane :
       (k : ℕ) (p : Pdu) (ds : List ScheduledOutAck)
-      → 4 ≤ length (header p)
-      → length (header p) ≤ 5
+      → lengthOf udata ≤ length (header p)
+      → length (header p) ≤ lengthOf ack
       → Used ackInRange 64 ds
       → ltb (s .«n_udata») 32 ≡ true
       → SaneAfter (accepted (withUnacknowledged r k p ds s store))

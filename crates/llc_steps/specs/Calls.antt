@@ -12,7 +12,7 @@ use Rattle.tx_receipt.specs.States.{is, final}
 use Rattle.tx_receipt.specs.Marks as Marks
 use Rattle.tx_receipt.specs.Marks.{allowed}
 use Rattle.tx_receipt.specs.declared.TxState.the-variants.{Pending}
-use Rattle.llc_pdus.specs.Headers.{header}
+use Rattle.llc_pdus.specs.Writes.{frameBits}
 use Rattle.llc_pdus.specs.declared.Pdu.{Pdu}
 use Rattle.llc_pdus.specs.declared.Pdu.the-variants.{BlAdata, BlData, BlUdata, BlAck}
 use Rattle.llc_rule.specs.Lists as Lists
@@ -84,7 +84,7 @@ dataPdu r ns nothing = BlData (wantsFcs r) ns
 unfoldable pub withAcknowledged : Request → State → List ℕ → Kept
 withAcknowledged r s b =
     let ns = seqOf (r .ssi) (rowsOf s) in
-    let pdu = header (dataPdu r ns (ackFor r s)) ++ r .sdu in
+    let pdu = frameBits (dataPdu r ns (ackFor r s)) (r .sdu) in
     kept
     (relaid s
     (messagesOf s ++ (entryOf r (carrierFor r s) 0 (freePlace s) (length pdu) ns ∷ []))
@@ -97,7 +97,7 @@ withAcknowledged r s b =
 
 unfoldable pub withUnacknowledged : Request → ℕ → Pdu → List ScheduledOutAck → State → List ℕ → Kept
 withUnacknowledged r link p ds s b =
-    let pdu = header p ++ r .sdu in
+    let pdu = frameBits p (r .sdu) in
     kept
     (relaid s
     (messagesOf s)

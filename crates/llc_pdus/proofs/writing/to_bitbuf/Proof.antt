@@ -1,7 +1,7 @@
 use Prim.Native.Nat.{ℕ, _+_}
 use native.Mathlib.Omega.{arith}
 use mathlib.Core.List.{List}
-use mathlib.Core.Path.{_≡_, _∙_, sym, ap₂}
+use mathlib.Core.Path.{_≡_, _∙_, sym, ap, ap₂}
 use Rattle.bits.proofs.Laws.{length-bits}
 use Rattle.bits.specs.Bits.{bits, part, splice}
 use borrow.Author.Needs.{needs}
@@ -10,7 +10,7 @@ use lib.ListN.{length}
 use Rattle.questions.proofs.Asked.{passed, failed}
 use Rattle.questions.specs.Outcome.{accepted}
 use Rattle.questions.specs.Effect.{effect}
-use Rattle.llc_pdus.proofs.Framing.{header-small, too-long, no-source, no-room, has-room, in-two}
+use Rattle.llc_pdus.proofs.Framing.{header-small, length-frame-of, too-long, no-source, no-room, has-room, in-two}
 use Rattle.llc_pdus.proofs.writing.to_bitbuf.Statement.{statement}
 use Rattle.llc_pdus.proofs.writing.to_bitbuf.Tie as tie
 
@@ -61,7 +61,7 @@ returns-4 c = let a = c .before .before .before .before .before .before .before 
     let size = c .before .before .before .header-len .ensures in
     let there = leb-true (a .from + a .len) (length s) (passed (c .before .before .before .before .before .within .ensures) (c .before .before .before .before .if3 .left)) in
     let short = leb-false (c .before .before .before .header-len .result + a .len) (length l) (failed (c .before .within2 .ensures) (c .if4 .taken)) in
-    sym (no-room (a .pdu) l s (a .from) (a .len) (omega (arith, c .before .before .before .before .before .before .before .if1 .left)) (omega (arith, c .before .before .before .before .before .before .if2 .left)) (omega arith))
+    sym (no-room (a .pdu) l s (a .from) (a .len) (omega (arith, c .before .before .before .before .before .before .before .if1 .left)) (omega (arith, c .before .before .before .before .before .before .if2 .left)) (omega (arith, length-frame-of (a .pdu) s (a .from) (a .len) there)))
 
 put-header-requires : tie.Need-put-header-requires
 put-header-requires c κs = let a = c .before .before .before .before .before .before .before .before .before .before .before .args in
@@ -96,9 +96,10 @@ returns-5 c = let a = c .before .before .before .before .before .before .before 
     let size = c .before .before .before .before .before .before .before .before .before .before .before .header-len .ensures in
     let there = leb-true (a .from + a .len) (length s) (passed (c .before .before .before .before .before .before .before .before .before .before .before .before .before .within .ensures) (c .before .before .before .before .before .before .before .before .before .before .before .before .if3 .left)) in
     let fits = leb-true (c .before .before .before .before .before .before .before .before .before .before .before .header-len .result + a .len) (length l) (passed (c .before .before .before .before .before .before .before .before .before .within2 .ensures) (c .before .before .before .before .before .before .before .before .if4 .left)) in
+    let long = length-frame-of p s (a .from) (a .len) there in
     sym
-    (has-room p l s (a .from) (a .len) (omega (arith, c .before .before .before .before .before .before .before .before .before .before .before .before .before .before .before .if1 .left)) (omega (arith, c .before .before .before .before .before .before .before .before .before .before .before .before .before .before .if2 .left)) (omega arith)
-    ∙ ap₂ (λ (n : ℕ) (t : List ℕ). effect (accepted (n + a .len)) t) (sym size)
+    (has-room p l s (a .from) (a .len) (omega (arith, c .before .before .before .before .before .before .before .before .before .before .before .before .before .before .before .if1 .left)) (omega (arith, c .before .before .before .before .before .before .before .before .before .before .before .before .before .before .if2 .left)) (omega (arith, long))
+    ∙ ap₂ (λ (n : ℕ) (t : List ℕ). effect (accepted n) t) (long ∙ ap (λ (n : ℕ). n + a .len) (sym size))
     (sym
     (c .before .before .put-sdu .ensures
     ∙ ap₂ (λ (t : List ℕ) (n : ℕ). splice t n (part s (a .from) (a .len))) (c .before .before .before .before .before .before .put-header .ensures) size
