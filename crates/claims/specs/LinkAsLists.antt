@@ -75,7 +75,7 @@ pub record LinkAsLists : Type 0 where
   pub length-reply : (r : Reply) → length (replyBytes r) ≡ 49 + maskSize (r .mask) + (length (r .pdu) + 7) / 8
   pub length-indication :
       (k : ℕ) (i : Indication) → length (indicationBytes k i) ≡ 35 + length (i .block) + sizeIfAny (i .sdu)
-  -- A call's records take at most 46,656 bytes; the second hypothesis holds after every run.
+  -- A call's records fit into every output; the second hypothesis holds after every run.
   pub room : (l : Link) → Within l → Small l → (c : List ℕ) → length (allBytes (given (step l c))) ≤ outputBytes
   pub new-small : Small new
   pub small-after : (l : Link) → Small l → (cs : List (List ℕ)) → Small (after l cs)

@@ -59,7 +59,7 @@ pub enum Read {
 pub enum Written {
     /// The frame's length in bits.
     Bits(usize),
-    /// The SDU has over 2,595 bits, or does not lie in its bytes (number 5).
+    /// The SDU has more bits than an outgoing one may have, or does not lie in its bytes (number 5).
     OutOfRange,
     /// The frame does not fit into the lent bytes (number 8).
     NoRoom,

@@ -1,5 +1,5 @@
--- A run that meets the hypotheses of the theorems: the calls of the instance on the link, each lent an output of 46,656 bytes, on
--- a store of 32,256; and before the two requests one call that is lent a byte too few.
+-- A run that meets the hypotheses of the theorems: the calls of the instance on the link, each lent an output as long
+-- as it must be, on a store of its length; and before the two requests one call that is lent a byte too few.
 use Prim.Native.Nat.{ℕ, _-_, _*_, _<_}
 use native.Mathlib.Omega.{arith}
 use mathlib.Core.Path.{_≡_, _∙_, refl, ap, ap₂}

@@ -119,7 +119,7 @@ unheard-first s c cs u =
     keep-no wasHeard (exchange s c) (run (left s c) cs) (ap (λ (k : ℕ). not (eqb k 1)) (u .one))
     ∙ ap (λ (t : Station). heard (run t cs)) (u .same)
 
--- A run on a store of 32,256 bytes.
+-- A run on a store of its length.
 pub fitting-append : (cs ds : List Lent) → fitting (cs ++ ds) ≡ fitting cs ++ fitting ds
 fitting-append cs ds =
     ap (map (λ (c : Lent). c .call)) (keep-append fits cs ds) ∙ map-append (λ (c : Lent). c .call) (keep fits cs) (keep fits ds)

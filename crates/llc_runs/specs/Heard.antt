@@ -16,7 +16,7 @@ wasHeard e = not (eqb (e .number) 1)
 abbrev pub heard : List Exchange → List Exchange
 heard es = keep wasHeard es
 
--- The calls that are lent an output of at least 46,656 bytes; on a store of 32,256 bytes these are put to the link, on another none.
+-- The calls that are lent an output as long as it must be; on a store of its length these are put to the link, on another none.
 abbrev pub fits : Lent → Bool
 fits c = leb outputBytes (length (c .out))
 
