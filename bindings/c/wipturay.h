@@ -29,8 +29,8 @@ struct wipturay_tdma_time {
     uint16_t h; /**< Hyperframe number, from 0 to 65,535. */
 };
 
-/** A message that the link holds. Its frame's bits lie in the store. */
-struct wipturay_entry {
+/** What is handed down of a message, but for its frame. */
+struct wipturay_tma_unitdata_req {
     uint32_t ssi;
     uint8_t ssi_type;     /**< 1 individual, 2 group. */
     uint16_t carrier_num; /**< Carrier on which the message is sent. */
@@ -43,13 +43,28 @@ struct wipturay_entry {
     uint8_t receipt;   /**< The number of its receipt. */
     size_t block_len;
     uint8_t block[64]; /**< Pass-through block, of which block_len bytes count. */
-    size_t place;      /**< Which of the 96 places of the store its frame has. */
-    size_t len;        /**< How many bits its frame has. */
-    bool ns;           /**< Expected acknowledgement sequence number. */
+};
+
+/** Where a frame's bits lie in the store. */
+struct wipturay_frame_place {
+    size_t place; /**< Which of the 96 places of the store its frame has. */
+    size_t len;   /**< How many bits its frame has. */
+};
+
+/** How far a message has come. */
+struct wipturay_progress {
+    bool ns;                /**< Expected acknowledgement sequence number. */
     bool submitted_to_umac; /**< Was it passed down? */
     bool has_umac_done;     /**< Was it reported, and noted in a tick end? */
     struct wipturay_tdma_time t_umac_done; /**< When that was noted. */
     uint8_t retransmit_count;
+};
+
+/** A message that the link holds. */
+struct wipturay_entry {
+    struct wipturay_tma_unitdata_req sent; /**< What of it is handed down. */
+    struct wipturay_frame_place frame;     /**< Where its frame lies. */
+    struct wipturay_progress progress;     /**< How far it has come. */
 };
 
 /** An acknowledgement that is due. */
@@ -99,6 +114,9 @@ struct wipturay_answer {
 };
 
 static_assert(sizeof(struct wipturay_tdma_time) == 6, "wipturay_tdma_time");
+static_assert(sizeof(struct wipturay_tma_unitdata_req) == 96, "wipturay_tma_unitdata_req");
+static_assert(sizeof(struct wipturay_frame_place) == 16, "wipturay_frame_place");
+static_assert(sizeof(struct wipturay_progress) == 12, "wipturay_progress");
 static_assert(sizeof(struct wipturay_entry) == 128, "wipturay_entry");
 static_assert(sizeof(struct wipturay_scheduled_out_ack) == 12, "wipturay_scheduled_out_ack");
 static_assert(sizeof(struct wipturay_receipt_place) == 3, "wipturay_receipt_place");

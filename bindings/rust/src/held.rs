@@ -30,17 +30,18 @@ pub struct Message<'a> {
 impl<'a> Message<'a> {
     /// The message of an entry of the engine's state.
     pub(crate) fn from_raw(entry: &'a Entry) -> Message<'a> {
+        let sent = &entry.sent;
         Message {
-            main_address: TetraAddress::from_raw(entry.ssi, entry.ssi_type),
-            carrier_num: entry.carrier_num,
-            link_id: entry.link_id,
-            endpoint_id: entry.endpoint_id,
-            req_handle: entry.req_handle,
-            stealing_permission: entry.stealing_permission,
-            mask: entry.has_mask.then_some(entry.mask),
-            receipt: entry.receipt,
-            block: &entry.block[..entry.block_len],
-            frame_len: entry.len,
+            main_address: TetraAddress::from_raw(sent.ssi, sent.ssi_type),
+            carrier_num: sent.carrier_num,
+            link_id: sent.link_id,
+            endpoint_id: sent.endpoint_id,
+            req_handle: sent.req_handle,
+            stealing_permission: sent.stealing_permission,
+            mask: sent.has_mask.then_some(sent.mask),
+            receipt: sent.receipt,
+            block: &sent.block[..sent.block_len],
+            frame_len: entry.frame.len,
         }
     }
 }
@@ -59,12 +60,13 @@ pub struct AcknowledgedMessage<'a> {
 impl<'a> AcknowledgedMessage<'a> {
     /// The acknowledged message of an entry of the engine's state.
     pub(crate) fn from_raw(entry: &'a Entry) -> AcknowledgedMessage<'a> {
+        let progress = &entry.progress;
         AcknowledgedMessage {
             message: Message::from_raw(entry),
-            ns: entry.ns,
-            under_way: entry.submitted_to_umac.then_some(UnderWay {
-                retransmit_count: entry.retransmit_count,
-                umac_done: entry.has_umac_done.then_some(entry.t_umac_done),
+            ns: progress.ns,
+            under_way: progress.submitted_to_umac.then_some(UnderWay {
+                retransmit_count: progress.retransmit_count,
+                umac_done: progress.has_umac_done.then_some(progress.t_umac_done),
             }),
         }
     }

@@ -38,7 +38,7 @@ pub struct Receipt {
 }
 
 impl Receipt {
-    /// Can its mark stay as it is? Discarded can, and changes all the same while the link holds the message
+    /// Is its mark a final one? Discarded is, and changes all the same while the link holds the message
     /// ([`Link::messages`](crate::Link::messages)) and may send it again.
     pub fn is_in_final_state(self) -> bool {
         match self.state {

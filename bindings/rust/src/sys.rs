@@ -16,11 +16,11 @@ pub struct TdmaTime {
     pub h: u16,
 }
 
-/// A message that the link holds.
-// crates/llc_state/src/lib.rt, Entry
+/// What is handed down of a message, but for its frame.
+// crates/llc_state/src/lib.rt, TmaUnitdataReq
 #[repr(C)]
 #[derive(Clone, Copy, Debug, PartialEq)]
-pub struct Entry {
+pub struct TmaUnitdataReq {
     pub ssi: u32,
     pub ssi_type: u8,
     pub carrier_num: u16,
@@ -33,13 +33,37 @@ pub struct Entry {
     pub receipt: u8,
     pub block_len: usize,
     pub block: [u8; 64],
+}
+
+/// Where a frame's bits lie in the store.
+// crates/llc_state/src/lib.rt, FramePlace
+#[repr(C)]
+#[derive(Clone, Copy, Debug, PartialEq)]
+pub struct FramePlace {
     pub place: usize,
     pub len: usize,
+}
+
+/// How far a message has come.
+// crates/llc_state/src/lib.rt, Progress
+#[repr(C)]
+#[derive(Clone, Copy, Debug, PartialEq)]
+pub struct Progress {
     pub ns: bool,
     pub submitted_to_umac: bool,
     pub has_umac_done: bool,
     pub t_umac_done: TdmaTime,
     pub retransmit_count: u8,
+}
+
+/// A message that the link holds.
+// crates/llc_state/src/lib.rt, Entry
+#[repr(C)]
+#[derive(Clone, Copy, Debug, PartialEq)]
+pub struct Entry {
+    pub sent: TmaUnitdataReq,
+    pub frame: FramePlace,
+    pub progress: Progress,
 }
 
 /// An acknowledgement that is due.

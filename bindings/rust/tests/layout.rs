@@ -40,10 +40,13 @@ macro_rules! layouts {
 fn mirrored() -> Vec<(&'static str, Layout)> {
     layouts! {
         TdmaTime { t, f, m, h }
-        Entry {
+        TmaUnitdataReq {
             ssi, ssi_type, carrier_num, link_id, endpoint_id, req_handle, stealing_permission, has_mask, mask, receipt, block_len,
-            block, place, len, ns, submitted_to_umac, has_umac_done, t_umac_done, retransmit_count
+            block
         }
+        FramePlace { place, len }
+        Progress { ns, submitted_to_umac, has_umac_done, t_umac_done, retransmit_count }
+        Entry { sent, frame, progress }
         ScheduledOutAck { ssi, ssi_type, carrier_num, nr, ts }
         ReceiptPlace { taken, expects_ack, state }
         LinkSendSeq { ssi, vs }

@@ -3,7 +3,10 @@
 use common::hex;
 use std::array;
 use std::mem::MaybeUninit;
-use sys::{Answer, Entry, LinkSendSeq, ReceiptPlace, ScheduledOutAck, State, TdmaTime, wipturay_call, wipturay_new};
+use sys::{
+    Answer, Entry, FramePlace, LinkSendSeq, Progress, ReceiptPlace, ScheduledOutAck, State, TdmaTime, TmaUnitdataReq,
+    wipturay_call, wipturay_new,
+};
 use wipturay as _; // brings the archive
 
 mod common;
@@ -12,7 +15,7 @@ mod sys;
 
 const FIRST: TdmaTime = TdmaTime { t: 1, f: 1, m: 1, h: 0 };
 
-const NO_ENTRY: Entry = Entry {
+const NO_SENT: TmaUnitdataReq = TmaUnitdataReq {
     ssi: 0,
     ssi_type: 0,
     carrier_num: 0,
@@ -25,13 +28,20 @@ const NO_ENTRY: Entry = Entry {
     receipt: 0,
     block_len: 0,
     block: [0; 64],
-    place: 0,
-    len: 0,
+};
+
+const NO_PROGRESS: Progress = Progress {
     ns: false,
     submitted_to_umac: false,
     has_umac_done: false,
     t_umac_done: FIRST,
     retransmit_count: 0,
+};
+
+const NO_ENTRY: Entry = Entry {
+    sent: NO_SENT,
+    frame: FramePlace { place: 0, len: 0 },
+    progress: NO_PROGRESS,
 };
 
 const NO_ACK: ScheduledOutAck = ScheduledOutAck {
@@ -188,20 +198,23 @@ fn every_field_has_its_value() {
     // Unitdata requests: one that steals, with a mask and a whole block, and one with a mask alone.
     state.n_udata = 1;
     state.outbound_udata_messages[0] = Entry {
-        ssi: 0x202122,
-        ssi_type: 2,
-        carrier_num: 0x2324,
-        link_id: 0x25262728,
-        endpoint_id: 0x292a2b2c,
-        req_handle: 0x2d2e2f30,
-        stealing_permission: true,
-        has_mask: true,
-        mask: 9,
-        receipt: 0x31,
-        block_len: 64,
-        block: array::from_fn(|i| 0x80 + i as u8),
-        len: 23,
-        ..NO_ENTRY
+        sent: TmaUnitdataReq {
+            ssi: 0x202122,
+            ssi_type: 2,
+            carrier_num: 0x2324,
+            link_id: 0x25262728,
+            endpoint_id: 0x292a2b2c,
+            req_handle: 0x2d2e2f30,
+            stealing_permission: true,
+            has_mask: true,
+            mask: 9,
+            receipt: 0x31,
+            block_len: 64,
+            block: array::from_fn(|i| 0x80 + i as u8),
+            ..NO_SENT
+        },
+        frame: FramePlace { place: 0, len: 23 },
+        progress: NO_PROGRESS,
     };
     state.receipts[0x31].taken = true;
     let block: String = (0x80..0xc0).map(|byte| format!("{byte:02x}")).collect();
@@ -209,18 +222,20 @@ fn every_field_has_its_value() {
     link.call(&request, 0, &state);
     state.n_udata = 2;
     state.outbound_udata_messages[1] = Entry {
-        ssi: 0x404142,
-        ssi_type: 1,
-        carrier_num: 0x1234,
-        link_id: 0x45464748,
-        endpoint_id: 0x494a4b4c,
-        req_handle: 0x4d4e4f50,
-        has_mask: true,
-        mask: 6,
-        receipt: 0x32,
-        place: 1,
-        len: 4,
-        ..NO_ENTRY
+        sent: TmaUnitdataReq {
+            ssi: 0x404142,
+            ssi_type: 1,
+            carrier_num: 0x1234,
+            link_id: 0x45464748,
+            endpoint_id: 0x494a4b4c,
+            req_handle: 0x4d4e4f50,
+            has_mask: true,
+            mask: 6,
+            receipt: 0x32,
+            ..NO_SENT
+        },
+        frame: FramePlace { place: 1, len: 4 },
+        progress: NO_PROGRESS,
     };
     state.receipts[0x32].taken = true;
     link.call(
@@ -232,18 +247,20 @@ fn every_field_has_its_value() {
     // Data requests, two of them to one SSI: N(S) 0 and 1.
     state.n_messages = 1;
     state.outbound_messages[0] = Entry {
-        ssi: 0x606162,
-        ssi_type: 1,
-        carrier_num: 0x1234,
-        endpoint_id: 0x696a6b6c,
-        req_handle: 0x6d6e6f70,
-        receipt: 0x33,
-        block_len: 3,
-        place: 2,
-        len: 21,
-        ..NO_ENTRY
+        sent: TmaUnitdataReq {
+            ssi: 0x606162,
+            ssi_type: 1,
+            carrier_num: 0x1234,
+            endpoint_id: 0x696a6b6c,
+            req_handle: 0x6d6e6f70,
+            receipt: 0x33,
+            block_len: 3,
+            ..NO_SENT
+        },
+        frame: FramePlace { place: 2, len: 21 },
+        progress: NO_PROGRESS,
     };
-    state.outbound_messages[0].block[..3].copy_from_slice(&[0x71, 0x72, 0x73]);
+    state.outbound_messages[0].sent.block[..3].copy_from_slice(&[0x71, 0x72, 0x73]);
     state.receipts[0x33] = ReceiptPlace {
         taken: true,
         expects_ack: true,
@@ -258,13 +275,17 @@ fn every_field_has_its_value() {
     );
     state.n_messages = 2;
     state.outbound_messages[1] = Entry {
-        receipt: 0x34,
-        block_len: 0,
-        block: [0; 64],
-        place: 3,
-        len: 5,
-        ns: true,
-        ..state.outbound_messages[0]
+        sent: TmaUnitdataReq {
+            receipt: 0x34,
+            block_len: 0,
+            block: [0; 64],
+            ..state.outbound_messages[0].sent
+        },
+        frame: FramePlace { place: 3, len: 5 },
+        progress: Progress {
+            ns: true,
+            ..state.outbound_messages[0].progress
+        },
     };
     state.receipts[0x34] = state.receipts[0x33];
     state.link_send_seq[0].vs = false;
@@ -275,13 +296,15 @@ fn every_field_has_its_value() {
     );
     state.n_messages = 3;
     state.outbound_messages[2] = Entry {
-        ssi: 0x747576,
-        ssi_type: 1,
-        carrier_num: 0x7778,
-        receipt: 0x35,
-        place: 4,
-        len: 6,
-        ..NO_ENTRY
+        sent: TmaUnitdataReq {
+            ssi: 0x747576,
+            ssi_type: 1,
+            carrier_num: 0x7778,
+            receipt: 0x35,
+            ..NO_SENT
+        },
+        frame: FramePlace { place: 4, len: 6 },
+        progress: NO_PROGRESS,
     };
     state.receipts[0x35] = state.receipts[0x33];
     state.n_rows = 2;
@@ -293,8 +316,8 @@ fn every_field_has_its_value() {
     );
 
     // Tick end: the first of each SSI is passed down; replies and unacknowledged messages have gone.
-    state.outbound_messages[0].submitted_to_umac = true;
-    state.outbound_messages[2].submitted_to_umac = true;
+    state.outbound_messages[0].progress.submitted_to_umac = true;
+    state.outbound_messages[2].progress.submitted_to_umac = true;
     state.n_udata = 0;
     state.outbound_udata_messages = NEW.outbound_udata_messages;
     state.n_acks = 0;
@@ -317,8 +340,8 @@ fn every_field_has_its_value() {
         h: 0x9abd,
     };
     link.call("22 0005 9abd 23 03 02", 0, &state);
-    state.outbound_messages[0].has_umac_done = true;
-    state.outbound_messages[0].t_umac_done = state.dltime;
+    state.outbound_messages[0].progress.has_umac_done = true;
+    state.outbound_messages[0].progress.t_umac_done = state.dltime;
     link.call("23 0000", 0, &state);
 
     // Much later it is sent again: not done, a count of 1; and then done once more.
@@ -329,14 +352,14 @@ fn every_field_has_its_value() {
         h: 0x9abe,
     };
     link.call("22 0005 9abe 24 04 03", 0, &state);
-    state.outbound_messages[0].has_umac_done = false;
-    state.outbound_messages[0].retransmit_count = 1;
+    state.outbound_messages[0].progress.has_umac_done = false;
+    state.outbound_messages[0].progress.retransmit_count = 1;
     state.receipts[0x33].state = 0;
     link.call("23 0000", message + 3 + 8, &state);
     state.receipts[0x33].state = 2;
     link.call("27 0002 33 01", 0, &state);
-    state.outbound_messages[0].has_umac_done = true;
-    state.outbound_messages[0].t_umac_done = state.dltime;
+    state.outbound_messages[0].progress.has_umac_done = true;
+    state.outbound_messages[0].progress.t_umac_done = state.dltime;
     link.call("23 0000", 0, &state);
 
     // BL-ACK with N(R) 0: acknowledged, and the others move up.
@@ -362,12 +385,15 @@ fn every_field_has_its_value() {
     // T251 one slot: sent four times, reported each time, and then lost.
     state.n_messages = 1;
     state.outbound_messages[0] = Entry {
-        ssi: 0x808182,
-        ssi_type: 1,
-        carrier_num: 0x5678,
-        receipt: 0x7f,
-        len: 5,
-        ..NO_ENTRY
+        sent: TmaUnitdataReq {
+            ssi: 0x808182,
+            ssi_type: 1,
+            carrier_num: 0x5678,
+            receipt: 0x7f,
+            ..NO_SENT
+        },
+        frame: FramePlace { place: 0, len: 5 },
+        progress: NO_PROGRESS,
     };
     state.receipts[0x7f] = ReceiptPlace {
         taken: true,
@@ -382,15 +408,15 @@ fn every_field_has_its_value() {
         &state,
     );
     for resends in 0..4 {
-        state.outbound_messages[0].submitted_to_umac = true;
-        state.outbound_messages[0].has_umac_done = false;
-        state.outbound_messages[0].retransmit_count = resends;
+        state.outbound_messages[0].progress.submitted_to_umac = true;
+        state.outbound_messages[0].progress.has_umac_done = false;
+        state.outbound_messages[0].progress.retransmit_count = resends;
         state.receipts[0x7f].state = 0;
         link.call("23 0000", message + 6, &state);
         state.receipts[0x7f].state = 2;
         link.call("27 0002 7f 01", 0, &state);
-        state.outbound_messages[0].has_umac_done = true;
-        state.outbound_messages[0].t_umac_done = state.dltime;
+        state.outbound_messages[0].progress.has_umac_done = true;
+        state.outbound_messages[0].progress.t_umac_done = state.dltime;
         link.call("23 0000", 0, &state);
         state.dltime.f += 1;
         link.call(&format!("22 0005 0000 01 {:02x} 01", state.dltime.f), 0, &state);

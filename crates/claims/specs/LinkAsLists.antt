@@ -7,30 +7,26 @@ use lib.Dec.{eqb}
 use lib.ListN.{drop, length}
 use Rattle.llc_rule.specs.Limits.{outputBytes}
 use Rattle.llc_rule.specs.Lists.{all}
-use Rattle.llc_rule.specs.Rule.{atFirst}
-use Rattle.llc_rule.specs.Claim.{Demand3, OneUnderWay, SeesTheSame, Swap, WhereTransmitted, calls, ruleRun, unhindered}
-use Rattle.llc_rule.specs.Sendings.{AtMostFour, HandedDown, HandedDownByRule, sendings}
+use Rattle.llc_rule.specs.Claim.{Claims}
+use Rattle.llc_rule.specs.Seen.{SeesTheSame, ruled, unhindered}
+use Rattle.llc_rule.specs.Sendings.{AtMostFour, sendings}
 use Rattle.llc_rule.specs.Link.{Link, new}
 use Rattle.llc_rule.specs.Runs.{Exchange, after, given, left, run}
-use Rattle.llc_rule.specs.Past.{holdersAfter, nobody, past}
+use Rattle.llc_rule.specs.Past.{holdersAfter}
 use Rattle.llc_rule.specs.Sound.{All, Sound, Within}
-use Rattle.llc_rule.specs.Records.{Indication, Record, Reply, Sent, allBytes, bytes, indicationBytes, replyBytes, sentBytes}
+use Rattle.llc_rule.specs.Records.{Indication, Record, Reply, Sent, allBytes, bytes, indicationBytes, kind, replyBytes, sentBytes}
 use Rattle.llc_rule.specs.Sizes.{Fits, Small}
 use Rattle.llc_rule.specs.Step.{step}
 use Rattle.llc_rule.proofs.Applied.{answers, asked, secondRequest}
 use Rattle.llc_rule.proofs.FitsRuns.{FitsLink}
 use Rattle.llc_rule.proofs.Instance.{askSecond, hasKind, hasNumber, instanceCalls, laterCalls, second, turnedCalls}
-use Rattle.llc_rule.proofs.Records.{kind, maskSize, sizeIfAny}
+use Rattle.llc_rule.proofs.Records.{maskSize, sizeIfAny}
 use Rattle.llc_rule.proofs.Values.{IsByte}
 
 pub record LinkAsLists : Type 0 where
-  -- Each is a type with a definition in specs/.
-  pub demand3 : Demand3
-  pub swap : Swap
-  pub one-under-way : OneUnderWay
-  pub handed-down : HandedDown
-  pub handed-down-by-rule : HandedDownByRule
-  pub where-transmitted : WhereTransmitted
+  -- All that is claimed of every run, of the link as lists.
+  pub claims :
+      Claims (λ (c : List ℕ). c) (run new) (λ (cs : List (List ℕ)). after new cs .receipts) (λ (cs : List (List ℕ)). after new cs .acknowledged)
   -- The hypotheses can be met, by a run with records of all five kinds and refused calls.
   pub unhindered-instance : unhindered (run new instanceCalls) ≡ true
   pub unhindered-turned : unhindered (run new turnedCalls) ≡ true
@@ -49,11 +45,11 @@ pub record LinkAsLists : Type 0 where
   pub four-instance : AtMostFour secondRequest (sendings 0x22 (run (left asked (step asked askSecond)) laterCalls))
   pub four-times : eqb (length (sendings 0x22 (run (left asked (step asked askSecond)) laterCalls))) 4 ≡ true
   pub four-by-rule :
-      AtMostFour secondRequest (sendings 0x22 (drop 4 (ruleRun atFirst (calls (past second nobody (run new instanceCalls))))))
-  pub answers-are : ruleRun atFirst (calls (past second nobody (run new instanceCalls))) ≡ answers
+      AtMostFour secondRequest (sendings 0x22 (drop 4 (ruled second (run new instanceCalls))))
+  pub answers-are : ruled second (run new instanceCalls) ≡ answers
   pub four-times-by-rule : eqb (length (sendings 0x22 (drop 4 answers))) 4 ≡ true
   -- What holds of queues, tables and receipts after every run.
-  pub sound-run : (cs : List (List ℕ)) → Sound (holdersAfter nobody (run new cs)) (after new cs)
+  pub sound-run : (cs : List (List ℕ)) → Sound (holdersAfter (run new cs)) (after new cs)
   -- A record's bytes determine it.
   pub determined : (r s : Record) → Fits r → Fits s → bytes r ≡ bytes s → r ≡ s
   -- The bytes of several records determine the records.
@@ -75,7 +71,7 @@ pub record LinkAsLists : Type 0 where
   pub length-reply : (r : Reply) → length (replyBytes r) ≡ 49 + maskSize (r .mask) + (length (r .pdu) + 7) / 8
   pub length-indication :
       (k : ℕ) (i : Indication) → length (indicationBytes k i) ≡ 35 + length (i .block) + sizeIfAny (i .sdu)
-  -- A call's records fit into every output; the second hypothesis holds after every run.
+  -- A call's records fit into every output that question 1 takes; the second hypothesis holds after every run.
   pub room : (l : Link) → Within l → Small l → (c : List ℕ) → length (allBytes (given (step l c))) ≤ outputBytes
   pub new-small : Small new
   pub small-after : (l : Link) → Small l → (cs : List (List ℕ)) → Small (after l cs)

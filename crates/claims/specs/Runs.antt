@@ -8,10 +8,10 @@ use lib.Dec.{eqb}
 use lib.ListN.{drop, length}
 use Rattle.llc_rule.specs.Lists.{all}
 use Rattle.bits.specs.Bits.{AllBytes, bits}
-use Rattle.llc_rule.specs.Calls.{Request, parsed}
-use Rattle.llc_rule.specs.Claim.{SeesItsOwnPast, SeesTheSame, calls, ruleAfter, ruleRun, ruleSights, unhindered}
+use Rattle.llc_rule.specs.Calls.{Request}
+use Rattle.llc_rule.specs.Seen.{SeesItsOwnPast, SeesTheSame, calls, ruleAfter, ruleSights, ruled, unhindered}
 use Rattle.llc_rule.specs.Sendings.{AtMostFour, requestOf, sendings}
-use Rattle.llc_rule.specs.Past.{heldBy, holdersAfter, nobody, past, sight, strays, takenFrom}
+use Rattle.llc_rule.specs.Past.{heldBy, holdersAfter, past, sight, strays, takenFrom}
 use Rattle.llc_rule.specs.Rule.{atFirst}
 use Rattle.llc_rule.proofs.Applied.{secondRequest}
 use Rattle.llc_rule.proofs.Instance.{hasKind, hasNumber, second}
@@ -36,22 +36,22 @@ pub record Runs : Type 0 where
       (store : List ℕ) (cs : List Lent)
       → unhindered (run (begin store) cs) ≡ true
       → (a : ℕ)
-      → map (sight a) (past a nobody (run (begin store) cs)) ≡ ruleSights atFirst (calls (past a nobody (run (begin store) cs)))
+      → map (sight a) (past a (run (begin store) cs)) ≡ ruleSights atFirst (calls (past a (run (begin store) cs)))
   pub receipts :
       (store : List ℕ) (cs : List Lent)
       → unhindered (run (begin store) cs) ≡ true
       → (a : ℕ)
-      → heldBy a (holdersAfter nobody (run (begin store) cs)) 0 (linkIn (after (begin store) cs .state) (after (begin store) cs .store) .receipts)
-      ≡ takenFrom 0 (ruleAfter atFirst (calls (past a nobody (run (begin store) cs))) .receipts)
+      → heldBy a (holdersAfter (run (begin store) cs)) 0 (linkIn (after (begin store) cs .state) (after (begin store) cs .store) .receipts)
+      ≡ takenFrom 0 (ruleAfter atFirst (calls (past a (run (begin store) cs))) .receipts)
   pub alone :
       (store : List ℕ) (cs : List Lent)
       → unhindered (run (begin store) cs) ≡ true
       → (a : ℕ)
-      → strays a nobody (run (begin store) cs) ≡ []
+      → strays a (run (begin store) cs) ≡ []
   pub few :
       (store : List ℕ) (before : List Lent) (c : Lent) (r : Request) (later : List Lent)
       → exchange (after (begin store) before) c .number ≡ 0
-      → requestOf (parsed (c .call)) ≡ some r
+      → requestOf (c .call) ≡ some r
       → length (sendings (r .receipt) (run (left (after (begin store) before) c) later)) ≤ 4
   pub one :
       (s : State) (store out bytes : List ℕ) (l m : Left)
@@ -87,4 +87,4 @@ pub record Runs : Type 0 where
   pub four-times-lents : eqb (length (sendings 0x22 (run (left askedAt lentSecond) laterLents))) 4 ≡ true
   pub four-by-rule-lents :
       AtMostFour secondRequest
-      (sendings 0x22 (drop 4 (ruleRun atFirst (calls (past second nobody (run (begin zeroStore) lents))))))
+      (sendings 0x22 (drop 4 (ruled second (run (begin zeroStore) lents))))

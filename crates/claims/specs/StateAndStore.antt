@@ -52,8 +52,8 @@ pub record StateAndStore : Type 0 where
       (s : State)
       → length (take (s .«n_messages») (s .«outbound_messages»)) + length (take (s .«n_udata») (s .«outbound_udata_messages»)) < storePlaces
       → (freePlace s < storePlaces)
-      × All (λ (e : Entry). eqb (e .place) (freePlace s) ≡ false) (take (s .«n_messages») (s .«outbound_messages»))
-      × All (λ (e : Entry). eqb (e .place) (freePlace s) ≡ false) (take (s .«n_udata») (s .«outbound_udata_messages»))
+      × All (λ (e : Entry). eqb (e .frame .place) (freePlace s) ≡ false) (take (s .«n_messages») (s .«outbound_messages»))
+      × All (λ (e : Entry). eqb (e .frame .place) (freePlace s) ≡ false) (take (s .«n_udata») (s .«outbound_udata_messages»))
   -- A frame that was put into a place is read there.
   pub part-there :
       (store : List ℕ) (p : ℕ) (vs : List ℕ)
@@ -66,8 +66,8 @@ pub record StateAndStore : Type 0 where
       (store : List ℕ) (p : ℕ) (vs : List ℕ) (e : Entry)
       → length store ≡ 8 * storeBytes
       → p < storePlaces
-      → e .place < storePlaces
-      → eqb (e .place) p ≡ false
+      → e .frame .place < storePlaces
+      → eqb (e .frame .place) p ≡ false
       → length vs ≤ placeBits
-      → e .len ≤ placeBits
+      → e .frame .len ≤ placeBits
       → frameIn (splice store (placeBit p) vs) e ≡ frameIn store e

@@ -3,26 +3,28 @@ use Prim.Native.Nat.{ℕ, _*_, _≤_, _<_}
 use native.Mathlib.Omega.{arith}
 use mathlib.Core.Path.{_≡_, _∙_, refl, sym, ap, subst}
 use mathlib.Core.Bool.{Bool, true, false, cond, not, _&&_, _||_}
-use mathlib.Core.List.{List, []}
-use borrow.Author.Tests.{eqb-true, eqb-false, leb-true, ltb-true, eq-eqb, ne-eqb, not-true, not-false}
+use mathlib.Core.List.{List, [], _∷_}
+use borrow.Author.Tests.{eqb-true, eqb-false, leb-true, ltb-true, eq-eqb, ne-eqb, not-false}
+use denote.Enum.Declared.{tagOf}
 use lib.Dec.{eqb, leb}
 use lib.ListN.{length, drop, length-append}
+use types.Run.{OneOf, miss}
 use Rattle.bits.specs.Bits.{bits}
 use Rattle.bits.proofs.Laws.{length-bits}
 use Rattle.questions.specs.Outcome.{Outcome, accepted, refused}
 use Rattle.llc_rule.specs.Limits.{outputBytes, storeBytes}
-use Rattle.llc_rule.specs.Calls as Rule
-use Rattle.llc_rule.specs.Calls.{Call, parsed}
+use Rattle.llc_rule.specs.Calls.{Call, isStart, parsed}
 use Rattle.llc_rule.specs.Ranges as RuleRanges
-use Rattle.llc_rule.specs.Ranges.{isReceipt}
+use Rattle.llc_rule.specs.Ranges.{isReceipt, actionInRange}
 use Rattle.llc_rule.specs.Records.{allBytes}
-use Rattle.llc_rule.specs.Step.{isStart}
-use Rattle.llc_rule.proofs.Lists.{by-test, both, clash, if-true, if-false}
-use Rattle.llc_calls.specs.Decoded.{decoded, Inside, requestOf, frameOf}
+use Rattle.llc_rule.proofs.Lists.{by-test, both}
+use Rattle.llc_calls.specs.Decoded.{actionOf, decoded, Inside}
 use Rattle.llc_calls.specs.Ranges.{inRangeOf}
+use Rattle.llc_calls.specs.declared.Action.{Action}
 use Rattle.llc_calls.specs.declared.Decoded.{Decoded}
-use Rattle.llc_calls.specs.declared.Decoded.the-variants.{Start, TickStart, TickEnd, DataRequest, UnitdataRequest, Frame, Report, Release, Unfilled, Unknown}
-use Rattle.llc_calls.proofs.Laws.{in-range}
+use Rattle.llc_calls.specs.declared.Decoded.the-variants.{Start, TickStart, TickEnd, Request, Frame, ByReceipt, Unfilled, Unknown}
+use Rattle.llc_calls.proofs.Decoded.{the-type}
+use Rattle.llc_calls.proofs.Laws.{inRangeIn, same-range, in-range}
 use Rattle.llc_state.specs.Ranges.{inRange}
 use Rattle.llc_state.specs.declared.State.{State}
 use Rattle.llc_steps.specs.States.{Kept, kept}
@@ -30,7 +32,7 @@ use Rattle.llc_steps.specs.declared.Answer.{Answer}
 use Rattle.llc_steps.specs.Answers.{Effect, effect, answer, laidOut, delivered}
 use Rattle.llc_steps.specs.Steps.{called, steps}
 use Rattle.llc.specs.Entry.{lentRight, answered, callOf}
-use Rattle.llc.specs.Questions.{unreadOf, startsOf, questionOf, performed}
+use Rattle.llc.specs.Questions.{questionOf, FirstNo, performed}
 
 -- Question 1.
 pub lent-wrong :
@@ -46,58 +48,50 @@ pub out-of-range :
 unfolding callOf answered
 out-of-range s store out bytes h r = rw (h, r)
 
--- What is said of a call, by the number of the first of questions 2 to 5 that it fails.
-abbrev Told : ℕ → Outcome Call → State → List ℕ → Outcome Kept → Type 0
-Told n c s store o = (eqb n 0 ≡ false → o ≡ refused n) × (eqb n 0 ≡ true → o ≡ performed c s store)
+-- A call that passes questions 4 and 5 is a start or finds the link started, and is in range.
+through-by : (a b : Bool) → _≡_ {A = ℕ} (cond a (cond b 0 5) 4) 0 → (a ≡ true) × (b ≡ true)
+through-by true true h = (refl, refl)
+through-by true false h = absurd (omega arith)
+through-by false b h = absurd (omega arith)
 
--- A call that is one: questions 4 and 5.
-told-call :
-    (c : Call) (d : Decoded) (s : State) (store : List ℕ)
-    → startsOf d ≡ isStart c
-    → inRangeOf d ≡ RuleRanges.inRange c
-    → Told (cond (startsOf d || s .started) (cond (inRangeOf d) 0 5) 4) (accepted c) s store (called s store (accepted c))
+passed-by : (c : Call) (on : Bool) → questionOf (accepted c) on ≡ 0 → (isStart c || on ≡ true) × (RuleRanges.inRange c ≡ true)
+passed-by c on h = through-by (isStart c || on) (RuleRanges.inRange c) h
+
+-- Questions 2 to 5 --------------------------------------------------------------------------------------------------------
+
+-- A call that fails none of them, and one that fails one.
+told-none : (o : Outcome Call) (s : State) (store : List ℕ) → questionOf o (s .started) ≡ 0 → called s store o ≡ performed o s store
 unfolding called
-told-call c d s store e r =
-    by-test (isStart c || s .started)
-    (λ h. rw (e, h, r) (by-test (RuleRanges.inRange c) (λ k. rw k (λ z. clash refl z, λ z. refl)) (λ k. rw k (λ z. refl, λ z. clash z refl))))
-    (λ h. rw (e, h) (λ z. refl, λ z. clash z refl))
+told-none (refused n) s store h = refl
+told-none (accepted c) s store h = let t = passed-by c (s .started) h in rw (t .0, t .1)
 
-told : (d : Decoded) (b : List ℕ) (s : State) (store : List ℕ) → Inside d b → Told (questionOf d (s .started)) (decoded d b) s store (called s store (decoded d b))
-unfolding questionOf called
-told (Start carrier t251) b s store i = told-call (Rule.start carrier t251) (Start carrier t251) s store refl (in-range (Start carrier t251) b (Rule.start carrier t251) i refl)
-told (TickStart time) b s store i = told-call (Rule.tickStart time) (TickStart time) s store refl (in-range (TickStart time) b (Rule.tickStart time) i refl)
-told TickEnd b s store i = told-call Rule.tickEnd TickEnd s store refl (in-range TickEnd b Rule.tickEnd i refl)
-told (DataRequest q) b s store i = told-call (Rule.dataRequest (requestOf q b)) (DataRequest q) s store refl (in-range (DataRequest q) b (Rule.dataRequest (requestOf q b)) i refl)
-told (UnitdataRequest q) b s store i = told-call (Rule.unitdataRequest (requestOf q b)) (UnitdataRequest q) s store refl (in-range (UnitdataRequest q) b (Rule.unitdataRequest (requestOf q b)) i refl)
-told (Frame f) b s store i = told-call (Rule.frame (frameOf f b)) (Frame f) s store refl (in-range (Frame f) b (Rule.frame (frameOf f b)) i refl)
-told (Report receipt how) b s store i = told-call (Rule.report receipt how) (Report receipt how) s store refl (in-range (Report receipt how) b (Rule.report receipt how) i refl)
-told (Release receipt) b s store i = told-call (Rule.release receipt) (Release receipt) s store refl (in-range (Release receipt) b (Rule.release receipt) i refl)
-told Unfilled b s store i = (λ z. refl, λ z. clash z refl)
-told Unknown b s store i = (λ z. refl, λ z. clash z refl)
+told-one :
+    (o : Outcome Call) (s : State) (store : List ℕ)
+    → (questionOf o (s .started) ≡ 0 → ⊥)
+    → called s store o ≡ refused (questionOf o (s .started))
+unfolding called
+told-one (refused n) s store h = refl
+told-one (accepted c) s store h =
+    by-test (isStart c || s .started)
+    (λ t. by-test (RuleRanges.inRange c) (λ r. absurd (h (rw (t, r)))) (λ r. rw (t, r)))
+    (λ t. rw t)
 
 module _
     (s : State) (store out bytes : List ℕ) (d : Decoded)
-    (lent : lentRight store out ≡ true) (range : inRange s ≡ true) (read : decoded d bytes ≡ parsed bytes) (inside : Inside d bytes) where
+    (lent : lentRight store out ≡ true) (range : inRange s ≡ true) (read : decoded d bytes ≡ parsed bytes) where
   called-is : callOf s store out bytes ≡ delivered s store out (called s store (decoded d bytes))
   unfolding callOf answered steps
   called-is = rw (lent, range, read)
 
-  -- Questions 2 to 5.
-  pub turned-down : (questionOf d (s .started) ≡ 0 → ⊥) → effect (answer (questionOf d (s .started)) s 0) store out ≡ callOf s store out bytes
-  turned-down h = sym (called-is ∙ ap (delivered s store out) (told d bytes s store inside .0 (ne-eqb _ 0 h)))
+  pub turned-down :
+      {n : ℕ} → n ≡ questionOf (decoded d bytes) (s .started) → (n ≡ 0 → ⊥) → effect (answer n s 0) store out ≡ callOf s store out bytes
+  turned-down e h =
+      ap (λ (k : ℕ). effect (answer k s 0) store out) e
+      ∙ sym (called-is ∙ ap (delivered s store out) (told-one (decoded d bytes) s store (λ z. h (e ∙ z))))
 
-  goes-through : questionOf d (s .started) ≡ 0 → delivered s store out (performed (decoded d bytes) s store) ≡ callOf s store out bytes
-  goes-through h = sym (called-is ∙ ap (delivered s store out) (told d bytes s store inside .1 (eq-eqb _ 0 h)))
-
--- A call that goes through is a start or finds the link started, and is in range.
-through-by : (n : ℕ) (a b : Bool) → eqb (cond (eqb n 0) (cond a (cond b 0 5) 4) n) 0 ≡ true → (a ≡ true) × (b ≡ true)
-through-by n true true h = (refl, refl)
-through-by n true false h = by-test (eqb n 0) (λ e. clash (rw e at h) refl) (λ e. clash (rw e at h) e)
-through-by n false b h = by-test (eqb n 0) (λ e. clash (rw e at h) refl) (λ e. clash (rw e at h) e)
-
-through-tells : (d : Decoded) (started : Bool) → questionOf d started ≡ 0 → (startsOf d || started ≡ true) × (inRangeOf d ≡ true)
-unfolding questionOf
-through-tells d started h = through-by (unreadOf d) (startsOf d || started) (inRangeOf d) (eq-eqb _ 0 h)
+  goes-through :
+      questionOf (decoded d bytes) (s .started) ≡ 0 → delivered s store out (performed (decoded d bytes) s store) ≡ callOf s store out bytes
+  goes-through h = sym (called-is ∙ ap (delivered s store out) (told-none (decoded d bytes) s store h))
 
 -- As many bytes as asked for are eight times as many bits.
 pub lent-bits : (store out : List ℕ) → eqb (length store) storeBytes && leb outputBytes (length out) ≡ lentRight (bits store) out
@@ -109,31 +103,61 @@ lent-bits store out =
     (λ e. let n = eqb-true (length store) storeBytes e in e ∙ sym (eq-eqb (length (bits store)) (8 * storeBytes) (omega arith)))
     (λ e. let n = eqb-false (length store) storeBytes e in e ∙ sym (ne-eqb (length (bits store)) (8 * storeBytes) (λ k. n (omega arith)))))
 
--- The number of the first of questions 2 to 5 that is failed.
-module _ (d : Decoded) (started : Bool) where
-  pub asks-2-3 : {n : ℕ} → n ≡ unreadOf d → (n ≡ 0 → ⊥) → n ≡ questionOf d started
-  unfolding questionOf
-  asks-2-3 {n} e h = e ∙ sym (if-false _ _ (ap (λ (k : ℕ). eqb k 0) (sym e) ∙ ne-eqb n 0 h))
+-- The first no, by which call it is: none, a start, or any other.
+pub no-call : (on : Bool) {call d : Decoded} {n : ℕ} → call ≡ d → ((bytes : List ℕ) → refused n ≡ decoded d bytes) → FirstNo call on n
+no-call on e h =
+    record {
+      each =
+          λ bytes inside.
+          ap (λ (o : Outcome Call). questionOf o on) (h bytes) ∙ sym (ap (λ (d : Decoded). questionOf (decoded d bytes) on) e);
+    }
 
-  first-asked : {n : ℕ} → n ≡ unreadOf d → n ≡ 0 → cond (startsOf d || started) (cond (inRangeOf d) 0 5) 4 ≡ questionOf d started
-  unfolding questionOf
-  first-asked {n} e h = sym (if-true _ _ (ap (λ (k : ℕ). eqb k 0) (sym e) ∙ eq-eqb n 0 h))
+pub start-asked :
+    (on : Bool) {call : Decoded} {carrier t251 n : ℕ} → call ≡ Start carrier t251 → n ≡ cond (inRangeOf call) 0 5 → FirstNo call on n
+start-asked on {call} {carrier} {t251} e f =
+    record {
+      each =
+          λ bytes inside.
+          f ∙ ap (λ (b : Bool). cond b 0 5) (ap inRangeOf e ∙ same-range (Start carrier t251) bytes tt)
+          ∙ sym (ap (λ (d : Decoded). questionOf (decoded d bytes) on) e);
+    }
 
-  pub asks-4 : {n : ℕ} {b : Bool} → n ≡ unreadOf d → n ≡ 0 → b ≡ startsOf d → not (b || started) ≡ true → 4 ≡ questionOf d started
-  asks-4 e h k t = sym (if-false _ _ (ap (λ (x : Bool). x || started) (sym k) ∙ not-true _ t)) ∙ first-asked e h
+abbrev Other : Outcome Call → Type 0
+Other (refused n) = ⊥
+Other (accepted c) = isStart c ≡ false
 
-  pub asks-5 :
-      {n : ℕ} {b r : Bool}
-      → n ≡ unreadOf d
-      → n ≡ 0
-      → b ≡ startsOf d
-      → not (b || started) ≡ false
-      → r ≡ inRangeOf d
-      → cond r 0 5 ≡ questionOf d started
-  asks-5 e h k t i =
-      ap (λ (x : Bool). cond x 0 5) i
-      ∙ sym (if-true _ _ (ap (λ (x : Bool). x || started) (sym k) ∙ not-false _ t))
-      ∙ first-asked e h
+-- The places of the other calls among what is decoded.
+abbrev others : List ℕ
+others = 1 ∷ 2 ∷ 3 ∷ 4 ∷ 5 ∷ []
+
+is-other : (d : Decoded) (bytes : List ℕ) → OneOf others (tagOf the-type d) → Other (decoded d bytes)
+is-other (Start carrier t251) bytes k = absurd (miss others 0 tt k)
+is-other (TickStart time) bytes k = refl
+is-other TickEnd bytes k = refl
+is-other (Request v q) bytes k = refl
+is-other (Frame f) bytes k = refl
+is-other (ByReceipt receipt action) bytes k = refl
+is-other Unfilled bytes k = absurd (miss others 6 tt k)
+is-other Unknown bytes k = absurd (miss others 7 tt k)
+
+other-by : (o : Outcome Call) (on : Bool) → Other o → questionOf o on ≡ cond on (cond (inRangeIn o) 0 5) 4
+other-by (refused n) on x = absurd x
+other-by (accepted c) on x = rw x
+
+module _ (on : Bool) (call : Decoded) (k : OneOf others (tagOf the-type call)) where
+  other-asked : {n : ℕ} → n ≡ cond on (cond (inRangeOf call) 0 5) 4 → FirstNo call on n
+  other-asked f =
+      record {
+        each =
+            λ bytes inside.
+            f ∙ ap (λ (b : Bool). cond on (cond b 0 5) 4) (same-range call bytes inside) ∙ sym (other-by (decoded call bytes) on (is-other call bytes k));
+      }
+
+  pub not-started : on ≡ false → FirstNo call on 4
+  not-started h = other-asked (rw h)
+
+  pub when-started : {n : ℕ} → on ≡ true → n ≡ cond (inRangeOf call) 0 5 → FirstNo call on n
+  when-started h f = other-asked (f ∙ rw h)
 
 -- What question 1 tells of the lengths.
 lent-tells : (store out : List ℕ) → lentRight (bits store) out ≡ true → (length store ≡ storeBytes) × (outputBytes ≤ length out)
@@ -149,9 +173,8 @@ pub record Passed (s : State) (store out bytes : List ℕ) (d : Decoded) : Type 
   pub state : inRange s ≡ true
   pub places : length store ≡ storeBytes
   pub room : outputBytes ≤ length out
-  pub on : startsOf d || s .started ≡ true
-  pub values : inRangeOf d ≡ true
   pub inside : Inside d bytes
+  pub asked : questionOf (decoded d bytes) (s .started) ≡ 0
   pub through : delivered s (bits store) out (performed (decoded d bytes) s (bits store)) ≡ callOf s (bits store) out bytes
 
 pub passed :
@@ -162,23 +185,21 @@ pub passed :
     → not fits ≡ false
     → decoded d bytes ≡ parsed bytes
     → Inside d bytes
-    → n ≡ questionOf d (s .started)
+    → FirstNo d (s .started) n
     → n ≡ 0
     → Passed s store out bytes d
 passed s store out bytes d {lent} {fits} l t f u read inside q z =
     let right : lentRight (bits store) out ≡ true = sym l ∙ not-false lent t in
     let range : inRange s ≡ true = sym f ∙ not-false fits u in
-    let asked : questionOf d (s .started) ≡ 0 = sym q ∙ z in
+    let none : questionOf (decoded d bytes) (s .started) ≡ 0 = sym (q .each bytes inside) ∙ z in
     let long = lent-tells store out right in
-    let tells = through-tells d (s .started) asked in
     record {
       state = range;
       places = long .0;
       room = long .1;
-      on = tells .0;
-      values = tells .1;
       inside = inside;
-      through = goes-through s (bits store) out bytes d right range read inside asked;
+      asked = none;
+      through = goes-through s (bits store) out bytes d right range read none;
     }
 
 -- Each call, once it is known which it is --------------------------------------------------------------------------------
@@ -193,30 +214,33 @@ unfolding laidOut allBytes
 quietly s {t} {k} {store} {out} e f =
     ap (λ (a : Answer). effect a store out) e ∙ ap (λ (u : State). effect (answer 0 u 0) store out) f
 
-module _ {call d : Decoded} (e : call ≡ d) where
-  pub by-call :
-      {x : Effect} (s : State) (store out bytes : List ℕ)
-      → x ≡ delivered s store out (performed (decoded d bytes) s store)
-      → x ≡ delivered s store out (performed (decoded call bytes) s store)
-  by-call s store out bytes h = h ∙ sym (ap (λ (a : Decoded). delivered s store out (performed (decoded a bytes) s store)) e)
+-- What is known of a call is known of which call it is.
+pub as-call : {s : State} {store out bytes : List ℕ} {call d : Decoded} → call ≡ d → Passed s store out bytes call → Passed s store out bytes d
+as-call {s} {store} {out} {bytes} e p = subst (λ (d : Decoded). Passed s store out bytes d) e p
 
-  pub ranged : inRangeOf call ≡ true → inRangeOf d ≡ true
-  ranged h = sym (ap inRangeOf e) ∙ h
+-- It finds the link started if it is no start, and its values are in range.
+module _ {s : State} {store out bytes : List ℕ} {d : Decoded} (p : Passed s store out bytes d) {c : Call} (e : decoded d bytes ≡ accepted c) where
+  tells : (isStart c || s .started ≡ true) × (RuleRanges.inRange c ≡ true)
+  tells = passed-by c (s .started) (ap (λ (o : Outcome Call). questionOf o (s .started)) (sym e) ∙ p .asked)
 
-  pub started : (on : Bool) → startsOf call || on ≡ true → startsOf d || on ≡ true
-  started on h = sym (ap (λ (a : Decoded). startsOf a || on) e) ∙ h
+  pub started : isStart c || s .started ≡ true
+  started = tells .0
 
-  pub insideOf : (bytes : List ℕ) → Inside call bytes → Inside d bytes
-  insideOf bytes h = subst (λ (a : Decoded). Inside a bytes) e h
+  pub ranged : inRangeOf d ≡ true
+  ranged = in-range d bytes c (p .inside) e ∙ tells .1
 
--- The receipt of a report and of a release is one of 128.
-pub report-ranged : (receipt how : ℕ) → inRangeOf (Report receipt how) ≡ true → receipt < 128
+-- What it does is what `callOf` says.
+pub answers :
+    {s : State} {store out bytes : List ℕ} {d : Decoded} {x : Effect}
+    → Passed s store out bytes d
+    → x ≡ delivered s (bits store) out (performed (decoded d bytes) s (bits store))
+    → x ≡ callOf s (bits store) out bytes
+answers p h = h ∙ p .through
+
+-- The receipt of a call is one of 128.
+pub receipt-ranged : (i : ℕ) (a : Action) → inRangeOf (ByReceipt i a) ≡ true → i < 128
 unfolding inRangeOf
-report-ranged receipt how h = ltb-true receipt 128 (both {x = isReceipt receipt} {y = eqb how 1 || eqb how 2} h .0)
-
-pub release-ranged : (receipt : ℕ) → inRangeOf (Release receipt) ≡ true → receipt < 128
-unfolding inRangeOf
-release-ranged receipt h = ltb-true receipt 128 h
+receipt-ranged i a h = ltb-true i 128 (both {x = isReceipt i} {y = actionInRange (actionOf a)} h .0)
 
 -- The records that are told of are in the output.
 len-fits-by : (s : State) (store out : List ℕ) (o : Outcome Kept) → delivered s store out o .answer .len ≤ length (delivered s store out o .out)

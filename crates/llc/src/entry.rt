@@ -1,15 +1,19 @@
 // Any bytes from any caller: questions 1 to 5, and then each call goes to its own function.
+ghost use mathlib.Core.Bool.{cond};
 ghost use mathlib.Core.Path.{_≡_};
 ghost use Rattle.bits.specs.Bits.{bits};
+ghost use Rattle.llc_calls.specs.Ranges.{inRangeOf};
 ghost use Rattle.llc_steps.specs.Answers.{effect};
 ghost use Rattle.llc.specs.Entry.{lentRight, callOf};
-ghost use Rattle.llc.specs.Questions.{unreadOf, startsOf, questionOf};
+ghost use Rattle.llc.specs.Questions.{FirstNo};
+use llc_calls::Action;
 use llc_calls::Decoded;
+use llc_calls::Service;
 use llc_calls::decode;
 use llc_calls::in_range;
-use llc_frames::release;
-use llc_frames::rx_tma_report_ind;
 use llc_frames::rx_tma_unitdata_ind;
+use llc_receipts::release;
+use llc_receipts::rx_tma_report_ind;
 use llc_requests::rx_tla_tldata_req_bl;
 use llc_requests::rx_tla_tlunitdata_req_bl;
 use llc_state::PLACE_BYTES;
@@ -31,57 +35,31 @@ fn lent_right(store: &[u8], out: &[u8]) -> bool
     (store.len() == STORE) & (OUTPUT <= out.len())
 }
 
-// Document 01's number for bytes that are no call; 0 for a call.
-fn unread(call: Decoded) -> u8
-    ensures { λ r. ⌜ r ≡ unreadOf call ⌝ }
+// The number of question 5 for a call whose values are not in range, else 0.
+fn out_of_range(call: Decoded) -> u8
+    ensures { λ r. ⌜ r ≡ cond (inRangeOf call) 0 5 ⌝ }
 {
-    match call {
-        Decoded::Unfilled => 2,
-        Decoded::Unknown => 3,
-        Decoded::Start(_, _) => 0,
-        Decoded::TickStart(_) => 0,
-        Decoded::TickEnd => 0,
-        Decoded::DataRequest(_) => 0,
-        Decoded::UnitdataRequest(_) => 0,
-        Decoded::Frame(_) => 0,
-        Decoded::Report(_, _) => 0,
-        Decoded::Release(_) => 0,
+    if in_range(call) {
+        return 0;
     }
-}
-
-// Is a call a start?
-fn starts(call: Decoded) -> bool
-    ensures { λ r. ⌜ r ≡ startsOf call ⌝ }
-{
-    match call {
-        Decoded::Start(_, _) => true,
-        Decoded::TickStart(_) => false,
-        Decoded::TickEnd => false,
-        Decoded::DataRequest(_) => false,
-        Decoded::UnitdataRequest(_) => false,
-        Decoded::Frame(_) => false,
-        Decoded::Report(_, _) => false,
-        Decoded::Release(_) => false,
-        Decoded::Unfilled => false,
-        Decoded::Unknown => false,
-    }
+    5
 }
 
 // The number of the first of questions 2 to 5 that a call fails; 0 where it fails none.
 fn question(call: Decoded, started: bool) -> u8
-    ensures { λ r. ⌜ r ≡ questionOf call started ⌝ }
+    ensures { λ r. ⌜ FirstNo call started r ⌝ }
 {
-    let n = unread(call);
-    if n != 0 {
-        return n;
+    match call {
+        Decoded::Unfilled => 2,
+        Decoded::Unknown => 3,
+        Decoded::Start(_, _) => out_of_range(call),
+        _ => {
+            if !started {
+                return 4;
+            }
+            out_of_range(call)
+        }
     }
-    if !(starts(call) | started) {
-        return 4;
-    }
-    if !in_range(call) {
-        return 5;
-    }
-    0
 }
 
 /// One call of any bytes, on any state, with any store and output.
@@ -103,11 +81,15 @@ pub fn call(state: State, store: &mut [u8], out: &mut [u8], bytes: &[u8]) -> Ans
         Decoded::Start(carrier, t251) => Answer::accepted(State::start(carrier, t251), 0),
         Decoded::TickStart(time) => Answer::accepted(state.tick_start(time), 0),
         Decoded::TickEnd => tick_end(state, store, out),
-        Decoded::DataRequest(q) => rx_tla_tldata_req_bl(state, store, q, bytes),
-        Decoded::UnitdataRequest(q) => rx_tla_tlunitdata_req_bl(state, store, q, bytes),
+        Decoded::Request(service, q) => match service {
+            Service::TlData => rx_tla_tldata_req_bl(state, store, q, bytes),
+            Service::TlUnitdata => rx_tla_tlunitdata_req_bl(state, store, q, bytes),
+        },
         Decoded::Frame(f) => rx_tma_unitdata_ind(state, out, f, bytes),
-        Decoded::Report(receipt, how) => rx_tma_report_ind(state, receipt, how),
-        Decoded::Release(receipt) => release(state, receipt),
+        Decoded::ByReceipt(receipt, action) => match action {
+            Action::Report(how) => rx_tma_report_ind(state, receipt, how),
+            Action::Release => release(state, receipt),
+        },
         Decoded::Unfilled => Answer::refused(2, state),
         Decoded::Unknown => Answer::refused(3, state),
     }

@@ -34,7 +34,7 @@ by-eqb P a b holds fails = go (eqb a b) refl
     go true h = holds (eqb-true a b h)
     go false h = fails (eqb-false a b h)
 
-eqb-more : (k m n : ℕ) → k ≤ n → eqb (n - k) m ≡ eqb n (k + m)
+pub eqb-more : (k m n : ℕ) → k ≤ n → eqb (n - k) m ≡ eqb n (k + m)
 eqb-more k m n h =
     by-eqb (λ t. t ≡ eqb n (k + m)) (n - k) m (λ e. sym (eq-eqb n (k + m) (omega arith))) (λ d. sym (ne-eqb n (k + m) (λ e. d (omega arith))))
 

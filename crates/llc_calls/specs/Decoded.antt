@@ -1,15 +1,22 @@
 -- What the answer of a decoding says: the call as document 01 has it, its block and its bits out of the call's own bytes, or
 -- the number of the question failed; and that the places it gives lie inside the call.
 use Prim.Native.Nat.{ℕ, _+_, _*_, _^_, _≤_, _<_}
+use mathlib.Core.Bool.{Bool, true, not}
 use mathlib.Core.List.{List}
+use lib.Dec.{eqb}
 use lib.ListN.{length, take, drop}
 use Rattle.bits.specs.Bits.{bits}
 use Rattle.questions.specs.Outcome.{Outcome, accepted, refused}
-use Rattle.llc_rule.specs.Calls.{Call, start, tickStart, tickEnd, dataRequest, unitdataRequest, frame, report, release, Request, Frame as FrameIn}
+use Rattle.llc_rule.specs.Calls as Rule
+use Rattle.llc_rule.specs.Calls.{Call, start, tickStart, tickEnd, request, frame, byReceipt, tlData, tlUnitdata, report, release}
 use Rattle.llc_calls.specs.declared.RequestCall.{RequestCall}
 use Rattle.llc_calls.specs.declared.FrameCall.{FrameCall}
+use Rattle.llc_calls.specs.declared.Service.{Service}
+use Rattle.llc_calls.specs.declared.Service.the-variants.{TlData, TlUnitdata}
+use Rattle.llc_calls.specs.declared.Action.{Action}
+use Rattle.llc_calls.specs.declared.Action.the-variants.{Report, Release}
 use Rattle.llc_calls.specs.declared.Decoded.{Decoded}
-use Rattle.llc_calls.specs.declared.Decoded.the-variants.{Start, TickStart, TickEnd, DataRequest, UnitdataRequest, Frame, Report, Release, Unfilled, Unknown}
+use Rattle.llc_calls.specs.declared.Decoded.the-variants.{Start, TickStart, TickEnd, Request, Frame, ByReceipt, Unfilled, Unknown}
 
 -- The n bytes, and the n bits, from a place of the call b on.
 abbrev pub bytesFrom : List ℕ → ℕ → ℕ → List ℕ
@@ -18,7 +25,7 @@ bytesFrom b at n = take n (drop at b)
 abbrev pub bitsFrom : List ℕ → ℕ → ℕ → List ℕ
 bitsFrom b at n = take n (bits (drop at b))
 
-unfoldable pub requestOf : RequestCall → List ℕ → Request
+unfoldable pub requestOf : RequestCall → List ℕ → Rule.Request
 requestOf q b =
     record {
       ssi = q .ssi;
@@ -35,7 +42,7 @@ requestOf q b =
       sdu = bitsFrom b (q .sdu) (q .«sdu_len»);
     }
 
-unfoldable pub frameOf : FrameCall → List ℕ → FrameIn
+unfoldable pub frameOf : FrameCall → List ℕ → Rule.Frame
 frameOf f b =
     record {
       ssi = f .ssi;
@@ -47,18 +54,30 @@ frameOf f b =
       pdu = bitsFrom b (f .pdu) (f .«pdu_len»);
     }
 
+-- The service of a request, and what is done by a receipt.
+abbrev pub serviceOf : Service → Rule.Service
+serviceOf TlData = tlData
+serviceOf TlUnitdata = tlUnitdata
+
+abbrev pub actionOf : Action → Rule.Action
+actionOf (Report how) = report how
+actionOf Release = release
+
 -- The answer about the call b, or the number.
 abbrev pub decoded : Decoded → List ℕ → Outcome Call
 decoded (Start carrier t251) b = accepted (start carrier t251)
 decoded (TickStart time) b = accepted (tickStart time)
 decoded TickEnd b = accepted tickEnd
-decoded (DataRequest q) b = accepted (dataRequest (requestOf q b))
-decoded (UnitdataRequest q) b = accepted (unitdataRequest (requestOf q b))
+decoded (Request s q) b = accepted (request (serviceOf s) (requestOf q b))
 decoded (Frame f) b = accepted (frame (frameOf f b))
-decoded (Report receipt how) b = accepted (report receipt how)
-decoded (Release receipt) b = accepted (release receipt)
+decoded (ByReceipt receipt action) b = accepted (byReceipt receipt (actionOf action))
 decoded Unfilled b = refused 2
 decoded Unknown b = refused 3
+
+-- Is a call none that question 2 refuses?
+abbrev pub innerFilled : Outcome Call → Bool
+innerFilled (accepted c) = true
+innerFilled (refused n) = not (eqb n 2)
 
 -- A block of n bytes at a place of the call b, and m bits from another place on, are inside it; their lengths are those of one
 -- byte and of two.
@@ -96,10 +115,8 @@ abbrev pub Inside : Decoded → List ℕ → Type 0
 Inside (Start carrier t251) b = Unit {0}
 Inside (TickStart time) b = Unit {0}
 Inside TickEnd b = Unit {0}
-Inside (DataRequest q) b = RequestInside q b
-Inside (UnitdataRequest q) b = RequestInside q b
+Inside (Request s q) b = RequestInside q b
 Inside (Frame f) b = FrameInside f b
-Inside (Report receipt how) b = Unit {0}
-Inside (Release receipt) b = Unit {0}
+Inside (ByReceipt receipt action) b = Unit {0}
 Inside Unfilled b = Unit {0}
 Inside Unknown b = Unit {0}

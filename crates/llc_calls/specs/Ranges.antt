@@ -5,11 +5,12 @@ use lib.Dec.{eqb, leb, ltb}
 use Rattle.tdma_time.specs.Slots.{valid}
 use Rattle.llc_pdus.specs.Writes.{longest}
 use Rattle.llc_rule.specs.Limits.{longestFrame}
-use Rattle.llc_rule.specs.Ranges.{isType, isReceipt}
+use Rattle.llc_rule.specs.Ranges.{isType, isReceipt, actionInRange}
+use Rattle.llc_calls.specs.Decoded.{actionOf}
 use Rattle.llc_calls.specs.declared.RequestCall.{RequestCall}
 use Rattle.llc_calls.specs.declared.FrameCall.{FrameCall}
 use Rattle.llc_calls.specs.declared.Decoded.{Decoded}
-use Rattle.llc_calls.specs.declared.Decoded.the-variants.{Start, TickStart, TickEnd, DataRequest, UnitdataRequest, Frame, Report, Release, Unfilled, Unknown}
+use Rattle.llc_calls.specs.declared.Decoded.the-variants.{Start, TickStart, TickEnd, Request, Frame, ByReceipt, Unfilled, Unknown}
 
 unfoldable pub requestRange : RequestCall → Bool
 requestRange q =
@@ -31,10 +32,8 @@ unfoldable pub inRangeOf : Decoded → Bool
 inRangeOf (Start carrier t251) = not (eqb t251 0)
 inRangeOf (TickStart time) = valid time
 inRangeOf TickEnd = true
-inRangeOf (DataRequest q) = requestRange q
-inRangeOf (UnitdataRequest q) = requestRange q
+inRangeOf (Request s q) = requestRange q
 inRangeOf (Frame f) = frameRange f
-inRangeOf (Report receipt how) = isReceipt receipt && (eqb how 1 || eqb how 2)
-inRangeOf (Release receipt) = isReceipt receipt
+inRangeOf (ByReceipt receipt action) = isReceipt receipt && actionInRange (actionOf action)
 inRangeOf Unfilled = false
 inRangeOf Unknown = false

@@ -3,11 +3,13 @@ ghost use Prim.Native.Nat.{_+_, _≤_};
 ghost use mathlib.Core.Bool.{true};
 ghost use mathlib.Core.Path.{_≡_};
 ghost use lib.ListN.{length, drop};
-ghost use Rattle.llc_rule.specs.Calls.{tag21, tag22, tag23, tag24, tag25, tag26, tag27, tag28, filledFrom, requestIn, frameIn, inner, parsed};
-ghost use Rattle.llc_calls.specs.Decoded.{decoded, Inside, requestOf, frameOf, RequestInside, FrameInside};
+ghost use Rattle.llc_rule.specs.Calls.{filledFrom, timeIn, requestIn, frameIn, tagOf, inner, parsed};
+ghost use Rattle.llc_calls.specs.Decoded.{decoded, Inside, innerFilled, requestOf, frameOf, RequestInside, FrameInside};
+use crate::Action;
 use crate::Decoded;
 use crate::FrameCall;
 use crate::RequestCall;
+use crate::Service;
 use crate::numbers::four;
 use crate::numbers::three;
 use crate::numbers::two;
@@ -26,118 +28,48 @@ pub fn decode(bytes: &[u8]) -> Decoded
         return Decoded::Unfilled;
     }
     let tag = bytes[0];
+    if !inner_filled(tag, bytes) {
+        return Decoded::Unfilled;
+    }
+    by_tag(tag, bytes)
+}
+
+// Do the inner lengths fill a call with this tag, or is the tag not known?
+fn inner_filled(tag: u8, bytes: &[u8]) -> bool
+    requires { ⌜ 3 ≤ length (now bytes) ⌝ }
+    ensures { λ r. ⌜ r ≡ innerFilled (inner (tagOf tag) (drop 3 (now (bytes .entry)))) ⌝ }
+{
     match tag {
-        0x21 => start(bytes),
-        0x22 => tick_start(bytes),
-        0x23 => tick_end(bytes),
-        0x24 => data_request(bytes),
-        0x25 => unitdata_request(bytes),
-        0x26 => frame(bytes),
-        0x27 => report(bytes),
-        0x28 => release(bytes),
+        0x21 => bytes.len() == 7,
+        0x22 => bytes.len() == 8,
+        0x23 => bytes.len() == 3,
+        0x24 => filled_from(bytes, 25),
+        0x25 => filled_from(bytes, 25),
+        0x26 => filled_from(bytes, 17),
+        0x27 => bytes.len() == 5,
+        0x28 => bytes.len() == 4,
+        _ => true,
+    }
+}
+
+// The call with this tag that its lengths fill.
+fn by_tag(tag: u8, bytes: &[u8]) -> Decoded
+    requires { ⌜ 3 ≤ length (now bytes) ⌝ }
+    requires { ⌜ innerFilled (inner (tagOf tag) (drop 3 (now bytes))) ≡ true ⌝ }
+    ensures { λ r. ⌜ decoded r (now (bytes .entry)) ≡ inner (tagOf tag) (drop 3 (now (bytes .entry))) ⌝ }
+    ensures inside { λ r. ⌜ Inside r (now (bytes .entry)) ⌝ }
+{
+    match tag {
+        0x21 => Decoded::Start(two(bytes, 3), two(bytes, 5)),
+        0x22 => Decoded::TickStart(time(bytes)),
+        0x23 => Decoded::TickEnd,
+        0x24 => Decoded::Request(Service::TlData, request(bytes)),
+        0x25 => Decoded::Request(Service::TlUnitdata, request(bytes)),
+        0x26 => Decoded::Frame(frame(bytes)),
+        0x27 => Decoded::ByReceipt(bytes[3], Action::Report(bytes[4])),
+        0x28 => Decoded::ByReceipt(bytes[3], Action::Release),
         _ => Decoded::Unknown,
     }
-}
-
-// Carrier and T251, of two bytes each.
-fn start(bytes: &[u8]) -> Decoded
-    requires { ⌜ 3 ≤ length (now bytes) ⌝ }
-    ensures { λ r. ⌜ decoded r (now (bytes .entry)) ≡ inner tag21 (drop 3 (now (bytes .entry))) ⌝ }
-    ensures inside { λ r. ⌜ Inside r (now (bytes .entry)) ⌝ }
-{
-    if bytes.len() != 7 {
-        return Decoded::Unfilled;
-    }
-    Decoded::Start(two(bytes, 3), two(bytes, 5))
-}
-
-// h of two bytes, m, f and t.
-fn tick_start(bytes: &[u8]) -> Decoded
-    requires { ⌜ 3 ≤ length (now bytes) ⌝ }
-    ensures { λ r. ⌜ decoded r (now (bytes .entry)) ≡ inner tag22 (drop 3 (now (bytes .entry))) ⌝ }
-    ensures inside { λ r. ⌜ Inside r (now (bytes .entry)) ⌝ }
-{
-    if bytes.len() != 8 {
-        return Decoded::Unfilled;
-    }
-    Decoded::TickStart(TdmaTime {
-        t: bytes[7],
-        f: bytes[6],
-        m: bytes[5],
-        h: two(bytes, 3),
-    })
-}
-
-// No value.
-fn tick_end(bytes: &[u8]) -> Decoded
-    requires { ⌜ 3 ≤ length (now bytes) ⌝ }
-    ensures { λ r. ⌜ decoded r (now (bytes .entry)) ≡ inner tag23 (drop 3 (now (bytes .entry))) ⌝ }
-    ensures inside { λ r. ⌜ Inside r (now (bytes .entry)) ⌝ }
-{
-    if bytes.len() != 3 {
-        return Decoded::Unfilled;
-    }
-    Decoded::TickEnd
-}
-
-// A request behind tag 24.
-fn data_request(bytes: &[u8]) -> Decoded
-    requires { ⌜ 3 ≤ length (now bytes) ⌝ }
-    ensures { λ r. ⌜ decoded r (now (bytes .entry)) ≡ inner tag24 (drop 3 (now (bytes .entry))) ⌝ }
-    ensures inside { λ r. ⌜ Inside r (now (bytes .entry)) ⌝ }
-{
-    if !filled_from(bytes, 25) {
-        return Decoded::Unfilled;
-    }
-    Decoded::DataRequest(request(bytes))
-}
-
-// A request behind tag 25.
-fn unitdata_request(bytes: &[u8]) -> Decoded
-    requires { ⌜ 3 ≤ length (now bytes) ⌝ }
-    ensures { λ r. ⌜ decoded r (now (bytes .entry)) ≡ inner tag25 (drop 3 (now (bytes .entry))) ⌝ }
-    ensures inside { λ r. ⌜ Inside r (now (bytes .entry)) ⌝ }
-{
-    if !filled_from(bytes, 25) {
-        return Decoded::Unfilled;
-    }
-    Decoded::UnitdataRequest(request(bytes))
-}
-
-// A frame behind tag 26.
-fn frame(bytes: &[u8]) -> Decoded
-    requires { ⌜ 3 ≤ length (now bytes) ⌝ }
-    ensures { λ r. ⌜ decoded r (now (bytes .entry)) ≡ inner tag26 (drop 3 (now (bytes .entry))) ⌝ }
-    ensures inside { λ r. ⌜ Inside r (now (bytes .entry)) ⌝ }
-{
-    if !filled_from(bytes, 17) {
-        return Decoded::Unfilled;
-    }
-    Decoded::Frame(received(bytes))
-}
-
-// A receipt, and what became of it.
-fn report(bytes: &[u8]) -> Decoded
-    requires { ⌜ 3 ≤ length (now bytes) ⌝ }
-    ensures { λ r. ⌜ decoded r (now (bytes .entry)) ≡ inner tag27 (drop 3 (now (bytes .entry))) ⌝ }
-    ensures inside { λ r. ⌜ Inside r (now (bytes .entry)) ⌝ }
-{
-    if bytes.len() != 5 {
-        return Decoded::Unfilled;
-    }
-    Decoded::Report(bytes[3], bytes[4])
-}
-
-// A receipt.
-fn release(bytes: &[u8]) -> Decoded
-    requires { ⌜ 3 ≤ length (now bytes) ⌝ }
-    ensures { λ r. ⌜ decoded r (now (bytes .entry)) ≡ inner tag28 (drop 3 (now (bytes .entry))) ⌝ }
-    ensures inside { λ r. ⌜ Inside r (now (bytes .entry)) ⌝ }
-{
-    if bytes.len() != 4 {
-        return Decoded::Unfilled;
-    }
-    Decoded::Release(bytes[3])
 }
 
 // Do a block and bits from a place on fill the rest of a call, the spare bits zero?
@@ -157,6 +89,19 @@ fn filled_from(bytes: &[u8], at: usize) -> bool
         return false;
     }
     get(bytes, 8 * first + count, (8 - count % 8) % 8) == 0
+}
+
+// h of two bytes, m, f and t.
+fn time(bytes: &[u8]) -> TdmaTime
+    requires { ⌜ 8 ≤ length (now bytes) ⌝ }
+    ensures { λ r. ⌜ r ≡ timeIn (drop 3 (now (bytes .entry))) ⌝ }
+{
+    TdmaTime {
+        t: bytes[7],
+        f: bytes[6],
+        m: bytes[5],
+        h: two(bytes, 3),
+    }
 }
 
 // The parts of a request whose lengths fill its call.
@@ -186,7 +131,7 @@ fn request(bytes: &[u8]) -> RequestCall
 }
 
 // The parts of a frame whose lengths fill its call.
-fn received(bytes: &[u8]) -> FrameCall
+fn frame(bytes: &[u8]) -> FrameCall
     requires { ⌜ filledFrom (now bytes) 17 ≡ true ⌝ }
     ensures { λ r. ⌜ frameOf r (now (bytes .entry)) ≡ frameIn (drop 3 (now (bytes .entry))) ⌝ }
     ensures inside { λ r. ⌜ FrameInside r (now (bytes .entry)) ⌝ }

@@ -61,6 +61,22 @@ pub struct FrameCall {
     pub pdu_len: usize,
 }
 
+/// The service that a request asks for.
+pub enum Service {
+    /// A data request.
+    TlData,
+    /// A unitdata request.
+    TlUnitdata,
+}
+
+/// What a call does by receipt.
+pub enum Action {
+    /// A report: 1 for transmitted or 2 for discarded.
+    Report(u8),
+    /// A release.
+    Release,
+}
+
 /// What taking a call apart gives.
 pub enum Decoded {
     /// The main carrier and T251.
@@ -69,16 +85,12 @@ pub enum Decoded {
     TickStart(TdmaTime),
     /// A tick end.
     TickEnd,
-    /// A data request.
-    DataRequest(RequestCall),
-    /// A unitdata request.
-    UnitdataRequest(RequestCall),
+    /// A request for a service.
+    Request(Service, RequestCall),
     /// A frame.
     Frame(FrameCall),
-    /// A receipt, and 1 for transmitted or 2 for discarded.
-    Report(u8, u8),
-    /// A receipt.
-    Release(u8),
+    /// A receipt, and what is done by it.
+    ByReceipt(u8, Action),
     /// The lengths do not fill the call, or a spare bit is not zero (number 2).
     Unfilled,
     /// The tag is not known (number 3).

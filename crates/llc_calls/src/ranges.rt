@@ -1,6 +1,9 @@
 // Question 5: are the values of a call in range?
 ghost use mathlib.Core.Path.{_≡_};
+ghost use Rattle.llc_rule.specs.Ranges.{actionInRange};
+ghost use Rattle.llc_calls.specs.Decoded.{actionOf};
 ghost use Rattle.llc_calls.specs.Ranges.{inRangeOf, requestRange, frameRange};
+use crate::Action;
 use crate::Decoded;
 use crate::FrameCall;
 use crate::RequestCall;
@@ -17,11 +20,9 @@ pub fn in_range(call: Decoded) -> bool
         Decoded::Start(_, t251) => t251 != 0,
         Decoded::TickStart(time) => time.is_valid(),
         Decoded::TickEnd => true,
-        Decoded::DataRequest(q) => request_in_range(q),
-        Decoded::UnitdataRequest(q) => request_in_range(q),
+        Decoded::Request(_, q) => request_in_range(q),
         Decoded::Frame(f) => frame_in_range(f),
-        Decoded::Report(receipt, how) => (receipt < 128) & ((how == 1) | (how == 2)),
-        Decoded::Release(receipt) => receipt < 128,
+        Decoded::ByReceipt(receipt, action) => (receipt < 128) & action_in_range(action),
         Decoded::Unfilled => false,
         Decoded::Unknown => false,
     }
@@ -47,4 +48,14 @@ fn frame_in_range(f: FrameCall) -> bool
     ensures { λ r. ⌜ r ≡ frameRange f ⌝ }
 {
     ((f.ssi_type == 1) | (f.ssi_type == 2)) & (f.block_len <= 64) & (f.pdu_len <= LONGEST_FRAME)
+}
+
+// The value of a report.
+fn action_in_range(action: Action) -> bool
+    ensures { λ r. ⌜ r ≡ actionInRange (actionOf action) ⌝ }
+{
+    match action {
+        Action::Report(how) => (how == 1) | (how == 2),
+        Action::Release => true,
+    }
 }

@@ -12,10 +12,9 @@ use Rattle.llc_state.specs.declared.State.{State}
 use Rattle.llc_state.proofs.InRange.{range-tells}
 use Rattle.llc_steps.specs.Calls.{ackRoom}
 use Rattle.llc_steps.specs.States.{messagesOf, acksOf, withAcks}
-use Rattle.llc_steps.proofs.Updates.{same-acks}
+use Rattle.llc_steps.proofs.Updates.{Counts, same-acks}
 use Rattle.llc_frames.specs.Numbers.{numberIf, nsIn, ackTo, dueTo}
 use Rattle.llc_frames.specs.declared.frames.SeqNumbers.{SeqNumbers}
-use Rattle.llc_frames.proofs.Relaid.{Counts}
 
 module _ (s : State) (f : FrameCall) (n : SeqNumbers) where
   -- No N(S): as many as before. An N(S): there is room for one more, and it is put last.

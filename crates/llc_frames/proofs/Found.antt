@@ -81,7 +81,7 @@ module _ (s : State) (i : ℕ) (nr : Bool) (long : s .«n_messages» ≤ length 
     found : foundAt i (messagesOf s) ≡ first entry (without i (messagesOf s))
     found = found-first (s .«n_messages») i (s .«outbound_messages») d long h
 
-    pub receipt-in : all messageInRange (messagesOf s) ≡ true → entry .receipt < 128
+    pub receipt-in : all messageInRange (messagesOf s) ≡ true → entry .sent .receipt < 128
     receipt-in a =
         let e = all-at messageInRange (messagesOf s) i d a (omega (arith, length-take-le (s .«n_messages») (s .«outbound_messages») long)) in
         let m = message-tells entry (rw (getD-take (s .«n_messages») (s .«outbound_messages») i d h) at e) in
@@ -91,10 +91,10 @@ module _ (s : State) (i : ℕ) (nr : Bool) (long : s .«n_messages» ≤ length 
     finishes :
         (b : Bool)
         → fits nr entry ≡ b
-        → not b || (placeOf (s .receipts) (entry .receipt) .taken && allowed acknowledged (receiptOf (placeOf (s .receipts) (entry .receipt))))
+        → not b || (placeOf (s .receipts) (entry .sent .receipt) .taken && allowed acknowledged (receiptOf (placeOf (s .receipts) (entry .sent .receipt))))
         ≡ finishable nr (foundAt i (messagesOf s)) s
     finishes b e =
-        let place : ReceiptPlace = placeOf (s .receipts) (entry .receipt) in
+        let place : ReceiptPlace = placeOf (s .receipts) (entry .sent .receipt) in
         sym (ap (λ (f : Found Entry). finishable nr f s) found ∙ ap (λ (t : Bool). not t || (place .taken && allowed acknowledged (receiptOf place))) e)
 
     pub unfit-finishes : fits nr entry ≡ false → true ≡ finishable nr (foundAt i (messagesOf s)) s
@@ -103,7 +103,7 @@ module _ (s : State) (i : ℕ) (nr : Bool) (long : s .«n_messages» ≤ length 
     pub fit-finishes :
         {r : Bool}
         → fits nr entry ≡ true
-        → r ≡ placeOf (s .receipts) (entry .receipt) .taken && allowed acknowledged (receiptOf (placeOf (s .receipts) (entry .receipt)))
+        → r ≡ placeOf (s .receipts) (entry .sent .receipt) .taken && allowed acknowledged (receiptOf (placeOf (s .receipts) (entry .sent .receipt)))
         → r ≡ finishable nr (foundAt i (messagesOf s)) s
     fit-finishes e f = f ∙ finishes true e
 
@@ -111,11 +111,11 @@ module _ (s : State) (i : ℕ) (nr : Bool) (long : s .«n_messages» ≤ length 
         {r t : State}
         → fits nr entry ≡ true
         → t ≡ withMessages s (without i (messagesOf s))
-        → r ≡ markReceipt t (entry .receipt) acknowledged
+        → r ≡ markReceipt t (entry .sent .receipt) acknowledged
         → r ≡ answeredAt nr (foundAt i (messagesOf s)) s
     fit-answered e f g =
         g
-        ∙ ap (λ (u : State). markReceipt u (entry .receipt) acknowledged) f
+        ∙ ap (λ (u : State). markReceipt u (entry .sent .receipt) acknowledged) f
         ∙ sym (ap (λ (u : Found Entry). answeredAt nr u s) found ∙ if-true _ _ e)
 
     pub unfit-answered : fits nr entry ≡ false → withMessages s (fronted i (messagesOf s)) ≡ answeredAt nr (foundAt i (messagesOf s)) s

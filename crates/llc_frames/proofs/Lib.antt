@@ -2,7 +2,5 @@ pub mod Apart
 pub mod Due
 pub mod Found
 pub mod Paths
-pub mod Relaid
-pub mod Reported
 pub mod Slot
 pub mod Upward

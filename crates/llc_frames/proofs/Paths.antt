@@ -43,7 +43,7 @@ use Rattle.llc_frames.specs.Upward.{SduLent}
 use Rattle.llc_frames.specs.declared.frames.SeqNumbers.{SeqNumbers}
 use Rattle.llc_frames.specs.declared.reading.Reading.{Reading}
 use Rattle.llc_frames.proofs.Found.{found-is}
-use Rattle.llc_frames.proofs.Relaid.{Counts, relaid-some, relaid-acks}
+use Rattle.llc_steps.proofs.Updates.{Counts, relaid-some, relaid-acks}
 use Rattle.llc_frames.proofs.Upward.{up-size, frame-small, lent}
 
 -- A call that is refused, and one that writes records and leaves another state.
@@ -106,7 +106,7 @@ unfolding answeredBy
 answered-is nr nothing ds s c = relaid-acks s ds (s .receipts) c
 answered-is nr (first e es) ds s c =
     ap₂ (cond (fits nr e))
-    (relaid-some s es ds (mark acknowledged (e .receipt) (s .receipts)) c)
+    (relaid-some s es ds (mark acknowledged (e .sent .receipt) (s .receipts)) c)
     (relaid-some s (e ∷ es) ds (s .receipts) c)
 
 -- A question passed, and one failed.

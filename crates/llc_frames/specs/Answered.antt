@@ -23,4 +23,4 @@ foundAt i l = foundIn (drop i l) (without i l)
 -- It finishes the message if it fits, else the message comes first in the queue.
 abbrev pub answeredAt : Bool → Found Entry → State → State
 answeredAt nr nothing s = s
-answeredAt nr (first e es) s = cond (fits nr e) (markReceipt (withMessages s es) (e .receipt) acknowledged) (withMessages s (e ∷ es))
+answeredAt nr (first e es) s = cond (fits nr e) (markReceipt (withMessages s es) (e .sent .receipt) acknowledged) (withMessages s (e ∷ es))

@@ -171,7 +171,7 @@ fn put_upward(
 fn fits(e: Entry, nr: bool) -> bool
     ensures { λ r. ⌜ r ≡ fitsTo nr e ⌝ }
 {
-    e.has_umac_done & (e.ns == nr)
+    e.progress.has_umac_done & (e.progress.ns == nr)
 }
 
 // If an N(R) finishes the message of a place, is its receipt taken, and may it be marked as acknowledged?
@@ -186,7 +186,7 @@ fn may_finish(state: State, i: usize, nr: bool) -> bool
     if !fits(e, nr) {
         return true;
     }
-    let receipt = e.receipt as usize;
+    let receipt = e.sent.receipt as usize;
     let place = state.receipts[receipt];
     place.is_awaiting()
 }
@@ -202,7 +202,7 @@ fn process_incoming_ack(state: State, i: usize, nr: bool) -> State
     }
     let e = state.outbound_messages[i];
     if fits(e, nr) {
-        let receipt = e.receipt as usize;
+        let receipt = e.sent.receipt as usize;
         return take_expected_ack(state, i).acknowledge_receipt(receipt);
     }
     push_front_expected_ack(state, i)

@@ -12,9 +12,9 @@ use Rattle.llc_state.specs.declared.State.{State}
 use Rattle.llc_state.specs.States.{noEntry, noAck, noRow}
 use Rattle.llc_steps.specs.Arrays.{laid}
 use Rattle.llc_steps.specs.Queues.{without, placed}
-use Rattle.llc_steps.specs.States.{acksOf, withAcks}
+use Rattle.llc_steps.specs.States.{acksOf, putMessages, putUdata, putAcks, putRows, withAcks}
 use Rattle.llc_steps.proofs.Laid.{laid-more, length-last, laid-last}
-use Rattle.llc_steps.proofs.Updates.{putMessages, putUdata, putAcks, putRows, same-acks}
+use Rattle.llc_steps.proofs.Updates.{same-acks}
 use Rattle.llc_queues.proofs.Without.{without-none}
 
 -- How many are in use, the array, the state with another array and number in use, and what these have to do with each other.

@@ -57,7 +57,7 @@ marked-out {us} m x h =
 
 -- The places that messages have.
 abbrev pub placesOf : List Entry → List ℕ
-placesOf es = map (λ (e : Entry). e .place) es
+placesOf es = map (λ (e : Entry). e .frame .place) es
 
 -- Before turn i over the first n of k messages, us are marked and the places of those before i.
 pub record Marking (us : List ℕ) (k n : ℕ) (es : List Entry) (used : List Bool) (i : ℕ) : Type 0 where
@@ -77,7 +77,7 @@ starts m h e = record { low = omega arith; high = h; long = e; done = rw append-
 places-more :
     (us : List ℕ) (es : List Entry) (i : ℕ) (d : Entry)
     → i < length es
-    → us ++ placesOf (take (suc i) es) ≡ (us ++ placesOf (take i es)) ++ (getD es i d .place ∷ [])
+    → us ++ placesOf (take (suc i) es) ≡ (us ++ placesOf (take i es)) ++ (getD es i d .frame .place ∷ [])
 places-more us es i d h = rw (take-suc es i d h, map-append, append-assoc)
 
 module _ {us : List ℕ} {k n : ℕ} {es : List Entry} {used : List Bool} {i : ℕ} (m : Marking us k n es used i) where
@@ -85,7 +85,7 @@ module _ {us : List ℕ} {k n : ℕ} {es : List Entry} {used : List Bool} {i : �
   turn :
       (d : Entry) (after : List Bool)
       → i < n
-      → Marked ((us ++ placesOf (take i es)) ++ (getD es i d .place ∷ [])) after
+      → Marked ((us ++ placesOf (take i es)) ++ (getD es i d .frame .place ∷ [])) after
       → Marking us k n es after (i + 1)
   turn d after h more =
       let one : i + 1 ≡ suc i = omega arith in
@@ -99,14 +99,14 @@ module _ {us : List ℕ} {k n : ℕ} {es : List Entry} {used : List Bool} {i : �
   pub marks-it :
       (d : Entry) {after : List Bool}
       → i < n
-      → getD es i d .place < storePlaces
-      → after ≡ set used (getD es i d .place) true
+      → getD es i d .frame .place < storePlaces
+      → after ≡ set used (getD es i d .frame .place) true
       → Marking us k n es after (i + 1)
-  marks-it d {after} h inside e = turn d after h (rw e (marked-in (m .done) (getD es i d .place) inside))
+  marks-it d {after} h inside e = turn d after h (rw e (marked-in (m .done) (getD es i d .frame .place) inside))
 
   pub passes-it :
-      (d : Entry) {after : List Bool} → i < n → storePlaces ≤ getD es i d .place → after ≡ used → Marking us k n es after (i + 1)
-  passes-it d {after} h beyond e = turn d after h (rw e (marked-out (m .done) (getD es i d .place) beyond))
+      (d : Entry) {after : List Bool} → i < n → storePlaces ≤ getD es i d .frame .place → after ≡ used → Marking us k n es after (i + 1)
+  passes-it d {after} h beyond e = turn d after h (rw e (marked-out (m .done) (getD es i d .frame .place) beyond))
 
   -- No turn is left.
   pub all-marked : n ≤ i → Marked (us ++ placesOf (take n es)) used

@@ -51,7 +51,9 @@ pub fn expected_ack_for_ssi(state: State, ssi: u32, carrier_num: u16) -> usize
     let mut i = 0;
     while i < state.n_messages {
         let e = state.outbound_messages[i];
-        if (e.ssi == ssi) & ((e.carrier_num == carrier_num) & e.submitted_to_umac) {
+        if (e.sent.ssi == ssi)
+            & ((e.sent.carrier_num == carrier_num) & e.progress.submitted_to_umac)
+        {
             return i;
         }
         i += 1;
@@ -67,14 +69,14 @@ pub fn holds(state: State, receipt: u8) -> bool
 {
     let mut i = 0;
     while i < state.n_messages {
-        if state.outbound_messages[i].receipt == receipt {
+        if state.outbound_messages[i].sent.receipt == receipt {
             return true;
         }
         i += 1;
     }
     let mut j = 0;
     while j < state.n_udata {
-        if state.outbound_udata_messages[j].receipt == receipt {
+        if state.outbound_udata_messages[j].sent.receipt == receipt {
             return true;
         }
         j += 1;
@@ -91,14 +93,14 @@ pub fn waits(state: State, receipt: u8) -> bool
     let mut i = 0;
     while i < state.n_messages {
         let e = state.outbound_messages[i];
-        if (e.receipt == receipt) & !e.submitted_to_umac {
+        if (e.sent.receipt == receipt) & !e.progress.submitted_to_umac {
             return true;
         }
         i += 1;
     }
     let mut j = 0;
     while j < state.n_udata {
-        if state.outbound_udata_messages[j].receipt == receipt {
+        if state.outbound_udata_messages[j].sent.receipt == receipt {
             return true;
         }
         j += 1;
@@ -115,7 +117,7 @@ pub fn free_place(state: State) -> usize
     let mut used = [false; STORE_PLACES];
     let mut i = 0;
     while i < state.n_messages {
-        let place = state.outbound_messages[i].place;
+        let place = state.outbound_messages[i].frame.place;
         if place < STORE_PLACES {
             used[place] = true;
         }
@@ -123,7 +125,7 @@ pub fn free_place(state: State) -> usize
     }
     let mut j = 0;
     while j < state.n_udata {
-        let place = state.outbound_udata_messages[j].place;
+        let place = state.outbound_udata_messages[j].frame.place;
         if place < STORE_PLACES {
             used[place] = true;
         }

@@ -2,14 +2,13 @@
 use Prim.Native.Nat.{ℕ, suc, _+_, _-_, _≤_, _<_}
 use native.Mathlib.Omega.{arith}
 use mathlib.Core.Path.{_≡_, _∙_, refl, ap}
-use mathlib.Core.Bool.{false}
 use mathlib.Core.List.{List, [], _∷_, _++_}
 use lib.ListN.{length, take, drop, set, getD, replicate, length-drop}
 use lib.Seq.{set-at, take-suc, append-snoc, getD-drop, length-take-le}
 use Rattle.llc_calls.specs.Decoded.{requestOf, RequestInside}
 use Rattle.llc_calls.specs.declared.RequestCall.{RequestCall}
 use Rattle.llc_calls.proofs.Laws.{block-length}
-use Rattle.llc_steps.specs.Calls.{entryOf}
+use Rattle.llc_steps.specs.Calls.{sentFor}
 
 -- After i turns of n, with the bytes from a place of b on.
 pub record Copied (b : List ℕ) (at n : ℕ) (block : List ℕ) (i : ℕ) : Type 0 where
@@ -53,14 +52,14 @@ module _ {b : List ℕ} {at n : ℕ} {block : List ℕ} {i : ℕ} (c : Copied b 
             ∙ ap (λ (t : List ℕ). t ++ replicate (64 - (i + 1)) 0) more;
       }
 
--- After the last turn it is the block of the request's entry.
+-- After the last turn it is the block of the request's message.
 pub ends :
     (q : RequestCall) (b block : List ℕ) (i : ℕ)
     → RequestInside q b
     → Copied b (q .block) (q .«block_len») block i
     → q .«block_len» ≤ i
-    → block ≡ entryOf (requestOf q b) 0 0 0 0 false .block
-unfolding entryOf requestOf
+    → block ≡ sentFor (requestOf q b) 0 0 .block
+unfolding requestOf
 ends q b block i inside c h =
     let e : i ≡ q .«block_len» = omega (arith, c .low) in
     rw (block-length (inside .parts)) (rw e at (c .holds))

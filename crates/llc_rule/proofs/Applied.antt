@@ -2,43 +2,43 @@
 use Prim.Native.Nat.{ℕ, zero, suc, _<_}
 use native.Mathlib.Omega.{arith}
 use mathlib.Core.Path.{_≡_, _∙_, refl, ap}
-use mathlib.Core.Bool.{true, cond}
+use mathlib.Core.Bool.{true}
 use mathlib.Core.List.{List, [], _∷_, _++_}
 use mathlib.Core.Option.{some}
 use borrow.Author.Tests.{ltb-true}
 use lib.Dec.{eqb, ltb}
 use lib.ListN.{length, getD, take, drop}
 use Rattle.questions.specs.Outcome.{number}
-use Rattle.llc_rule.specs.Calls.{toBytes, Request, parsed}
+use Rattle.llc_rule.specs.Calls.{toBytes, Request}
 use Rattle.llc_rule.specs.Link.{Link, new}
 use Rattle.llc_rule.specs.Step.{step}
 use Rattle.llc_rule.specs.Rule.{atFirst, dueOn, requested, afterData, afterUnitdata, afterStart, looked, submitted, resent, sentFirst, atTickEnd, theOne, afterReceived, afterFrame, stillWaits, afterReport, stillHeld, afterRelease, does, judged, rule}
-use Rattle.llc_rule.specs.Runs.{Exchange, left, run, after}
-use Rattle.llc_rule.specs.Past.{Holders, nobody, belongsTo, holders, whose, inPast, past, holdersAfter}
-use Rattle.llc_rule.specs.Claim.{ruleRun, calls, whoseAfter, SeesTheSame}
+use Rattle.llc_rule.specs.Runs.{Exchange, exchange, left, run, after}
+use Rattle.llc_rule.specs.Past.{about, belongsTo, doneTo, holders, whose, inPast, nothingYet, andThen, history}
+use Rattle.llc_rule.specs.Seen.{ruleRun, ruled, SeesTheSame}
 use Rattle.llc_rule.specs.Sendings.{requestOf, handed, sendings, AtMostFour}
-use Rattle.llc_rule.proofs.Lists.{by-test}
+use Rattle.llc_rule.specs.Claim.{whoseAfter}
 use Rattle.llc_rule.proofs.Swap.{swap}
-use Rattle.llc_rule.proofs.Sendings.{handed-down}
-use Rattle.llc_rule.proofs.SendingsByRule.{handed-down-by-rule}
+use Rattle.llc_rule.proofs.Sendings.{four-run}
+use Rattle.llc_rule.proofs.SendingsByRule.{four-ruled}
 use Rattle.llc_rule.proofs.Runs.{exchanges}
 use Rattle.llc_rule.proofs.Instance.{first, second, askFirst, askSecond, openingCalls, laterCalls, instanceCalls, turnedCalls, unhindered-instance, unhindered-turned}
 
 -- Whose the two requests are, in either order.
-pub whose-first : whoseAfter openingCalls askFirst ≡ belongsTo first
-unfolding whose holders holdersAfter run toBytes exchanges openingCalls
+pub whose-first : whoseAfter (run new openingCalls) askFirst ≡ belongsTo first
+unfolding whose about doneTo holders andThen history nothingYet run toBytes exchanges openingCalls
 whose-first = refl
 
-pub whose-second : whoseAfter openingCalls askSecond ≡ belongsTo second
-unfolding whose holders holdersAfter run toBytes exchanges openingCalls
+pub whose-second : whoseAfter (run new openingCalls) askSecond ≡ belongsTo second
+unfolding whose about doneTo holders andThen history nothingYet run toBytes exchanges openingCalls
 whose-second = refl
 
-pub whose-second-then : whoseAfter (openingCalls ++ (askFirst ∷ [])) askSecond ≡ belongsTo second
-unfolding whose holders holdersAfter run toBytes exchanges openingCalls
+pub whose-second-then : whoseAfter (run new (openingCalls ++ (askFirst ∷ []))) askSecond ≡ belongsTo second
+unfolding whose about doneTo holders andThen history nothingYet run toBytes exchanges openingCalls
 whose-second-then = refl
 
-pub whose-first-then : whoseAfter (openingCalls ++ (askSecond ∷ [])) askFirst ≡ belongsTo first
-unfolding whose holders holdersAfter run toBytes exchanges openingCalls
+pub whose-first-then : whoseAfter (run new (openingCalls ++ (askSecond ∷ []))) askFirst ≡ belongsTo first
+unfolding whose about doneTo holders andThen history nothingYet run toBytes exchanges openingCalls
 whose-first-then = refl
 
 -- They change places, and change back.
@@ -47,7 +47,7 @@ pub swap-instance :
     → SeesTheSame a
     (run new instanceCalls) (after new instanceCalls .receipts) (run new turnedCalls) (after new turnedCalls .receipts)
 swap-instance =
-    swap .each openingCalls askFirst askSecond laterCalls first second whose-first whose-second-then refl
+    swap openingCalls askFirst askSecond laterCalls first second whose-first whose-second-then refl
     unhindered-instance
     unhindered-turned
 
@@ -56,7 +56,7 @@ pub swap-turned :
     → SeesTheSame a
     (run new turnedCalls) (after new turnedCalls .receipts) (run new instanceCalls) (after new instanceCalls .receipts)
 swap-turned =
-    swap .each openingCalls askSecond askFirst laterCalls second first whose-second whose-first-then refl
+    swap openingCalls askSecond askFirst laterCalls second first whose-second whose-first-then refl
     unhindered-turned
     unhindered-instance
 
@@ -78,8 +78,8 @@ secondRequest =
       sdu = 1 ∷ 0 ∷ 1 ∷ 0 ∷ 0 ∷ 1 ∷ 0 ∷ 1 ∷ 1 ∷ [];
     }
 
-pub is-request : requestOf (parsed askSecond) ≡ some secondRequest
-unfolding toBytes exchanges
+pub is-request : requestOf askSecond ≡ some secondRequest
+unfolding about toBytes exchanges
 is-request = refl
 
 -- The link when it is asked for.
@@ -90,35 +90,43 @@ pub is-accepted : number (step asked askSecond) ≡ 0
 unfolding after toBytes exchanges openingCalls
 is-accepted = refl
 
+-- A run taken apart at a call.
+run-split :
+    (l : Link) (before : List (List ℕ)) (c : List ℕ) (later : List (List ℕ))
+    → run l (before ++ (c ∷ later))
+    ≡ run l before ++ (exchange c (step (after l before) c) ∷ run (left (after l before) (step (after l before) c)) later)
+unfolding run after
+run-split l [] c later = refl
+run-split l (b ∷ before) c later =
+    ap (λ (es : List Exchange). exchange b (step l b) ∷ es) (run-split (left l (step l b)) before c later)
+
 -- It is handed down four times, and no more, though its receipt serves again.
 pub four-instance : AtMostFour secondRequest (sendings 0x22 (run (left asked (step asked askSecond)) laterCalls))
-four-instance = handed-down .each (openingCalls ++ (askFirst ∷ [])) askSecond secondRequest laterCalls is-accepted is-request
+four-instance =
+    let before : List (List ℕ) = openingCalls ++ (askFirst ∷ []) in
+    four-run (before ++ (askSecond ∷ laterCalls)) .each
+    (run new before)
+    (exchange askSecond (step asked askSecond))
+    (run (left asked (step asked askSecond)) laterCalls)
+    secondRequest
+    (run-split new before askSecond laterCalls)
+    is-accepted
+    is-request
 
 pub four-times : eqb (length (sendings 0x22 (run (left asked (step asked askSecond)) laterCalls))) 4 ≡ true
-unfolding sendings handed run after toBytes exchanges openingCalls laterCalls
+unfolding sendings handed doneTo about run after toBytes exchanges openingCalls laterCalls
 four-times = refl
-
--- A past, written so that the checker computes the rest of it once.
-unfoldable pastOnce : ℕ → Holders → List Exchange → List Exchange
-pastOnce a h [] = []
-pastOnce a h (e ∷ es) = cond (inPast a h e) (e ∷ []) [] ++ pastOnce a (holders e h) es
-
-past-once : (a : ℕ) (h : Holders) (es : List Exchange) → past a h es ≡ pastOnce a h es
-unfolding past pastOnce
-past-once a h [] = refl
-past-once a h (e ∷ es) =
-    let rest = past-once a (holders e h) es in by-test (inPast a h e) (λ p. rw (p, rest)) (λ p. rw (p, rest))
 
 -- What the rule answers on the past of the second address, with all opened that it computes by.
 unfoldable pub answers : List Exchange
 unfolding exchanges ruleRun atFirst dueOn requested afterData afterUnitdata afterStart looked submitted resent sentFirst atTickEnd
-    theOne afterReceived afterFrame stillWaits afterReport stillHeld afterRelease does judged rule holders whose inPast pastOnce
+    theOne afterReceived afterFrame stillWaits afterReport stillHeld afterRelease does judged rule about doneTo holders whose inPast nothingYet andThen history
     toBytes openingCalls laterCalls
-answers = ruleRun atFirst (calls (pastOnce second nobody (run new instanceCalls)))
+answers = ruled second (run new instanceCalls)
 
-pub answers-are : ruleRun atFirst (calls (past second nobody (run new instanceCalls))) ≡ answers
-unfolding answers ruleRun
-answers-are = ap (λ (es : List Exchange). ruleRun atFirst (calls es)) (past-once second nobody (run new instanceCalls))
+pub answers-are : ruled second (run new instanceCalls) ≡ answers
+unfolding answers
+answers-are = refl
 
 -- A list taken apart at a place.
 parts : {A : Type 0} (k : ℕ) (l : List A) (d : A) → k < length l → l ≡ take k l ++ (getD l k d ∷ drop (suc k) l)
@@ -134,8 +142,8 @@ unfoldable pub fourth : Exchange
 unfolding answers
 fourth = getD answers 3 nothing
 
-pub fourth-asks : requestOf (parsed (fourth .call)) ≡ some secondRequest
-unfolding fourth
+pub fourth-asks : requestOf (fourth .call) ≡ some secondRequest
+unfolding fourth about
 fourth-asks = refl
 
 pub fourth-accepted : fourth .number ≡ 0
@@ -146,19 +154,17 @@ enough : ltb 3 (length answers) ≡ true
 unfolding answers
 enough = refl
 
-pub answers-parts :
-    ruleRun atFirst (calls (past second nobody (run new instanceCalls))) ≡ take 3 answers ++ (fourth ∷ drop 4 answers)
+pub answers-parts : ruled second (run new instanceCalls) ≡ take 3 answers ++ (fourth ∷ drop 4 answers)
 unfolding fourth
 answers-parts = answers-are ∙ parts 3 answers nothing (ltb-true 3 (length answers) enough)
 
 -- And it hands it down four times.
-pub four-by-rule :
-    AtMostFour secondRequest (sendings 0x22 (drop 4 (ruleRun atFirst (calls (past second nobody (run new instanceCalls))))))
+pub four-by-rule : AtMostFour secondRequest (sendings 0x22 (drop 4 (ruled second (run new instanceCalls))))
 four-by-rule =
     rw answers-are
-    (handed-down-by-rule .each instanceCalls unhindered-instance second .each
+    (four-ruled instanceCalls unhindered-instance second .each
     (take 3 answers) fourth (drop 4 answers) secondRequest answers-parts fourth-accepted fourth-asks)
 
 pub four-times-by-rule : eqb (length (sendings 0x22 (drop 4 answers))) 4 ≡ true
-unfolding answers sendings handed
+unfolding answers sendings handed doneTo about
 four-times-by-rule = refl

@@ -3,59 +3,47 @@ use Prim.Native.Nat.{ℕ, suc, _+_}
 use native.Mathlib.Omega.{arith}
 use mathlib.Core.Path.{_≡_, _∙_, refl, sym, ap, ap₂}
 use mathlib.Core.Bool.{true, false, cond, not, _&&_, _||_, false≢true}
-use mathlib.Core.List.{List, [], _∷_, _++_, map}
+use mathlib.Core.List.{List, [], _∷_, _++_, map, map-append, append-nil}
 use mathlib.Core.Option.{Option, none, some}
-use lib.Dec.{eqb}
 use Rattle.questions.specs.Outcome.{Outcome, accepted, refused, number}
-use Rattle.questions.proofs.Asked.{accepted-passed}
 use Rattle.llc_rule.specs.Lists.{keep, all, among}
-use Rattle.llc_rule.specs.Calls.{Call, start, tickStart, tickEnd, dataRequest, unitdataRequest, frame, report, release, parsed}
+use Rattle.llc_rule.specs.Calls.{Call, isStart, parsed}
 use Rattle.llc_rule.specs.Ranges.{inRange}
 use Rattle.llc_rule.specs.Records.{Record}
 use Rattle.llc_rule.specs.Messages.{Place, free, placeAt, isFree, noReceipts}
 use Rattle.llc_rule.specs.Done.{Done}
 use Rattle.llc_rule.specs.Link.{Link, new, bitOf}
-use Rattle.llc_rule.specs.Step.{isStart, called, step}
-use Rattle.llc_rule.specs.Rule.{Own, atFirst, mayCome, judged, rule}
+use Rattle.llc_rule.specs.Step.{called, step}
+use Rattle.llc_rule.specs.Rule.{Own, atFirst, judged, rule}
 use Rattle.llc_rule.specs.Runs.{left, given, Exchange, exchange, run, after}
-use Rattle.llc_rule.specs.Past.{Holders, nobody, heldAfterCall, holders, whoseIs, whose, concerns, leftOut, inPast, past, strays, holdersAfter, isTickEnd, sight, isHolder, heldBy, takenFrom}
-use Rattle.llc_rule.specs.Claim.{ruleRun, ruleSights, ruleAfter, calls, hindrances, unhindered, Demand3}
+use Rattle.llc_rule.specs.Past.{aboutRead, aboutCall, about, Holders, heldAfter, doneTo, holders, whoseOf, whose, concerns, leftOut, inPast, History, nothingYet, andThen, history, holdersAfter, past, isTickEnd, Sight, sight, isHolder, heldBy, takenFrom}
+use Rattle.llc_rule.specs.Seen.{ruleRun, ruleSights, ruleAfter, calls, keptByRule, hindrances, unhindered, SeesItsOwnPast}
 use Rattle.llc_rule.specs.Sound.{Sound, isNobody}
 use Rattle.llc_rule.proofs.Lists.{by-test, either, both}
-use Rattle.llc_rule.proofs.Own.{about, blankFrom, blank, own, seenAs}
-use Rattle.llc_rule.proofs.SeenCalls.{Unhindered, refusal, own-call, other-call, Unchanged}
-use Rattle.llc_rule.proofs.SoundCalls.{holders-refused, sound-new, sound-step, sound-run}
+use Rattle.llc_rule.proofs.Paths.{step-law, refused-number}
+use Rattle.llc_rule.proofs.Own.{ofSsi, blankFrom, blank, own, seenAs}
+use Rattle.llc_rule.proofs.SeenCalls.{Unhindered, own-call, other-paths}
+use Rattle.llc_rule.proofs.SoundCalls.{holders-accepted, holders-refused, sound-new, sound-next, sound-run}
+
+-- One call ------------------------------------------------------------------------------------------------------------------
 
 -- What an address has of the records of a call.
 abbrev shownOf : ℕ → Outcome Call → List Record → List Record
-shownOf a c rs = cond (isTickEnd c) (keep (about a) rs) rs
-
--- "Started, or is this a start?", put to both.
-may-come : (a : ℕ) (h : Holders) (l : Link) (c : Call) → mayCome c (own a h l) ≡ isStart c || l .started
-unfolding own
-may-come a h l (start carrier t251) = refl
-may-come a h l (tickStart time) = refl
-may-come a h l tickEnd = refl
-may-come a h l (dataRequest r) = refl
-may-come a h l (unitdataRequest r) = refl
-may-come a h l (frame f) = refl
-may-come a h l (report receipt how) = refl
-may-come a h l (release receipt) = refl
+shownOf a c rs = cond (isTickEnd c) (keep (ofSsi a) rs) rs
 
 -- A call of its past: the rule on what it has gives what the link gives, as it has that.
 judged-is :
     (a : ℕ) (h : Holders) (l : Link) (c : Outcome Call)
     → Sound h l
-    → concerns a (whoseIs h c) ≡ true
+    → concerns a (whoseOf h (aboutRead c .whom)) ≡ true
     → Unhindered (number (called l c))
-    → judged (own a h l) c ≡ seenAs (own a (heldAfterCall c h)) (shownOf a c) (called l c)
-unfolding judged called seenAs
+    → judged (own a h l) c ≡ seenAs (own a (heldAfter (aboutRead c .toHolding) h)) (shownOf a c) (called l c)
+unfolding judged called seenAs own
 judged-is a h l (refused n) ok w u = absurd (false≢true w)
 judged-is a h l (accepted c) ok w u =
-    rw (may-come a h l c)
-    (by-test (isStart c || l .started)
+    by-test (isStart c || l .started)
     (λ s. rw s (by-test (inRange c) (λ r. rw r (own-call a h l c ok w r (rw (s, r) at u))) (λ r. rw r)))
-    (λ s. rw s))
+    (λ s. rw s)
 
 -- A call of its past: it sees the number and the records that the rule gives, and then has what the rule keeps.
 pub record Mine (a : ℕ) (h : Holders) (l : Link) (c : List ℕ) : Type 0 where
@@ -65,21 +53,21 @@ pub record Mine (a : ℕ) (h : Holders) (l : Link) (c : List ℕ) : Type 0 where
 
 -- Another call: it sees nothing of it, and has what it had.
 pub record Others (a : ℕ) (h : Holders) (l : Link) (c : List ℕ) : Type 0 where
-  pub silent : keep (about a) (given (step l c)) ≡ []
+  pub silent : keep (ofSsi a) (given (step l c)) ≡ []
   pub next : own a (holders (exchange c (step l c)) h) (left l (step l c)) ≡ own a h l
 
 mine-by :
     (a : ℕ) (h : Holders) (l : Link) (c : List ℕ) (o : Outcome (Done Link))
     → step l c ≡ o
-    → rule (own a h l) c ≡ seenAs (own a (heldAfterCall (parsed c) h)) (shownOf a (parsed c)) o
+    → rule (own a h l) c ≡ seenAs (own a (heldAfter (about c .toHolding) h)) (shownOf a (parsed c)) o
     → Mine a h l c
-unfolding seenAs sight holders keep
+unfolding seenAs sight holders doneTo keep
 mine-by a h l c (accepted d) e g = record { number = rw (e, g); records = rw (e, g); next = rw (e, g) }
 mine-by a h l c (refused n) e g =
     record {
       number = rw (e, g);
       records = rw (e, g) (either (λ (rs : List Record). rs ≡ []) (isTickEnd (parsed c)) refl refl);
-      next = ap (λ (x : Holders). own a x (left l (step l c))) (holders-refused h l c n e) ∙ rw (e, g);
+      next = rw (e, g) (ap (λ (x : Holders). own a x l) (holders-refused h c n [] (refused-number l c n e)));
     }
 
 pub mine :
@@ -88,79 +76,121 @@ pub mine :
     → Unhindered (number (step l c))
     → concerns a (whose h c) ≡ true
     → Mine a h l c
-unfolding whose rule step
+unfolding whose about rule step
 mine a h l c ok u w = mine-by a h l c (step l c) refl (judged-is a h l (parsed c) ok w u)
 
-concerned : (a : ℕ) (h : Holders) (e : Exchange) → inPast a h e ≡ true → concerns a (whose h (e .call)) ≡ true
+-- A call of its past concerns the address.
+pub concerned : (a : ℕ) (h : Holders) (e : Exchange) → inPast a h e ≡ true → concerns a (whose h (e .call)) ≡ true
 unfolding inPast
 concerned a h e p = both {x = not (leftOut (e .number))} {y = concerns a (whose h (e .call))} p .1
 
-others-called :
-    (a : ℕ) (h : Holders) (l : Link) (c : Outcome Call) (d : Done Link)
-    → Sound h l
-    → concerns a (whoseIs h c) ≡ false
-    → called l c ≡ accepted d
-    → Unchanged a h (heldAfterCall c h) l d
-unfolding called
-others-called a h l (refused n) d ok w e = absurd (false≢true (refusal n d e))
-others-called a h l (accepted c) d ok w e =
-    let four = accepted-passed 4 (isStart c || l .started) (sym e) in
-    let five = accepted-passed 5 (inRange c) (four .1) in
-    other-call a h l c d ok w (five .0) (sym (five .1))
+whose-accepted : (h : Holders) (bytes : List ℕ) (c : Call) → parsed bytes ≡ accepted c → whose h bytes ≡ whoseOf h (aboutCall c .whom)
+unfolding whose about
+whose-accepted h bytes c e = rw e
 
-others-by :
-    (a : ℕ) (h : Holders) (l : Link) (c : List ℕ) (o : Outcome (Done Link))
-    → step l c ≡ o
-    → Sound h l
-    → not (leftOut (number o)) && concerns a (whose h c) ≡ false
-    → Others a h l c
-unfolding step whose holders keep
-others-by a h l c (accepted d) e ok p =
-    let x = others-called a h l (parsed c) d ok p e in
-    record { silent = rw e (x .silent); next = rw e (x .same) }
-others-by a h l c (refused n) e ok p =
-    record {
-      silent = rw e;
-      next = ap (λ (x : Holders). own a x (left l (step l c))) (holders-refused h l c n e) ∙ rw e;
-    }
+-- What is said of another call, by its outcome.
+record OthersBy (a : ℕ) (h : Holders) (l : Link) (c : List ℕ) (o : Outcome (Done Link)) : Type 0 where
+  silent : keep (ofSsi a) (given o) ≡ []
+  next : own a (holders (exchange c o) h) (left l o) ≡ own a h l
 
 pub others : (a : ℕ) (h : Holders) (l : Link) (c : List ℕ) → Sound h l → inPast a h (exchange c (step l c)) ≡ false → Others a h l c
-unfolding inPast
-others a h l c ok p = others-by a h l c (step l c) refl ok p
+unfolding inPast keep
+others a h l c ok p =
+    let o =
+    step-law l _ (other-paths a h l ok) c
+    (λ o. not (leftOut (number o)) && concerns a (whose h c) ≡ false → OthersBy a h l c o)
+    (λ n k q. record { silent = refl; next = ap (λ (x : Holders). own a x l) (holders-refused h c n [] k) })
+    (λ call d e u q.
+    let x = u (ap (concerns a) (sym (whose-accepted h c call e)) ∙ q) in
+    record {
+      silent = x .silent;
+      next = ap (λ (x : Holders). own a x (d .state)) (holders-accepted h c call (d .records) e) ∙ x .same;
+    })
+    p
+    in
+    record { silent = o .silent; next = o .next }
 
--- A run from a sound link: what an address has seen, what it has in the end, and that it sees nothing else.
-record Sees (a : ℕ) (h : Holders) (l : Link) (cs : List (List ℕ)) : Type 0 where
-  seen : map (sight a) (past a h (run l cs)) ≡ ruleSights (own a h l) (calls (past a h (run l cs)))
-  has : own a (holdersAfter h (run l cs)) (after l cs) ≡ ruleAfter (own a h l) (calls (past a h (run l cs)))
-  alone : strays a h (run l cs) ≡ []
+-- Runs ----------------------------------------------------------------------------------------------------------------------
 
-sees : (a : ℕ) (h : Holders) (l : Link) (cs : List (List ℕ)) → Sound h l → unhindered (run l cs) ≡ true → Sees a h l cs
-unfolding run after past strays holdersAfter ruleRun ruleSights ruleAfter unhindered all sight
-sees a h l [] ok u = record { seen = refl; has = refl; alone = refl }
-sees a h l (c ∷ cs) ok u =
+-- One more call for the rule.
+pub calls-last : (es : List Exchange) (e : Exchange) → calls (es ++ (e ∷ [])) ≡ calls es ++ (e .call ∷ [])
+calls-last es e = map-append (λ (x : Exchange). x .call) es (e ∷ [])
+
+after-last : (o : Own) (cs : List (List ℕ)) (c : List ℕ) → ruleAfter o (cs ++ (c ∷ [])) ≡ left (ruleAfter o cs) (rule (ruleAfter o cs) c)
+unfolding ruleAfter
+after-last o [] c = refl
+after-last o (x ∷ cs) c = after-last (left o (rule o x)) cs c
+
+sights-last :
+    (o : Own) (cs : List (List ℕ)) (c : List ℕ)
+    → ruleSights o (cs ++ (c ∷ []))
+    ≡ ruleSights o cs ++ (record { number = number (rule (ruleAfter o cs) c); records = given (rule (ruleAfter o cs) c) } ∷ [])
+unfolding ruleSights ruleRun ruleAfter
+sights-last o [] c = refl
+sights-last o (x ∷ cs) c =
+    ap (λ (t : List Sight). record { number = number (rule o x); records = given (rule o x) } ∷ t)
+    (sights-last (left o (rule o x)) cs c)
+
+-- At a moment of a run: what an address has seen of its past is what the rule gives, it has what the rule keeps, and it saw
+-- nothing else.
+record Seen (a : ℕ) (k : History) (l : Link) : Type 0 where
+  seen : map (sight a) (k .past a) ≡ ruleSights atFirst (calls (k .past a))
+  has : own a (k .holders) l ≡ ruleAfter atFirst (calls (k .past a))
+  alone : k .strays a ≡ []
+
+-- The next call keeps that.
+module _ (a : ℕ) (k : History) (l : Link) (c : List ℕ) (ok : Sound (k .holders) l) (s : Seen a k l) where
+  seen-mine : inPast a (k .holders) (exchange c (step l c)) ≡ true → Unhindered (number (step l c)) → Seen a (andThen (exchange c (step l c)) k) (left l (step l c))
+  unfolding andThen sight
+  seen-mine p u =
+      let e : Exchange = exchange c (step l c) in
+      let es : List Exchange = k .past a in
+      let m = mine a (k .holders) l c ok u (concerned a (k .holders) e p) in
+      let o : Own = own a (k .holders) l in
+      let r : Own = ruleAfter atFirst (calls es) in
+      let here : sight a e ≡ record { number = number (rule r c); records = given (rule r c) } =
+      (λ i. record { number = m .number i; records = m .records i })
+      ∙ ap (λ (x : Own). record { number = number (rule x c); records = given (rule x c) }) (s .has) in
+      record {
+        seen =
+            rw p
+            (map-append (sight a) es (e ∷ [])
+            ∙ ap₂ (λ (x : List Sight) (y : Sight). x ++ (y ∷ [])) (s .seen) here
+            ∙ sym (ap (ruleSights atFirst) (calls-last es e) ∙ sights-last atFirst (calls es) c));
+        has =
+            rw p
+            (m .next
+            ∙ ap (λ (x : Own). left x (rule x c)) (s .has)
+            ∙ sym (ap (ruleAfter atFirst) (calls-last es e) ∙ after-last atFirst (calls es) c));
+        alone = rw (p, append-nil (k .strays a)) (s .alone);
+      }
+
+  seen-other : inPast a (k .holders) (exchange c (step l c)) ≡ false → Seen a (andThen (exchange c (step l c)) k) (left l (step l c))
+  unfolding andThen
+  seen-other p =
+      let o = others a (k .holders) l c ok p in
+      record {
+        seen = rw (p, append-nil (k .past a)) (s .seen);
+        has = rw (p, append-nil (k .past a)) (o .next ∙ s .has);
+        alone = rw p (ap₂ (λ (x y : List Record). x ++ y) (s .alone) (o .silent));
+      }
+
+  seen-next : Unhindered (number (step l c)) → Seen a (andThen (exchange c (step l c)) k) (left l (step l c))
+  seen-next u = by-test (inPast a (k .holders) (exchange c (step l c))) (λ p. seen-mine p u) (λ p. seen-other p)
+
+-- A run from a sound link.
+sees :
+    (a : ℕ) (k : History) (l : Link) (cs : List (List ℕ))
+    → Sound (k .holders) l
+    → unhindered (run l cs) ≡ true
+    → Seen a k l
+    → Seen a (history k (run l cs)) (after l cs)
+unfolding history run after unhindered all
+sees a k l [] ok u s = s
+sees a k l (c ∷ cs) ok u s =
     let e : Exchange = exchange c (step l c) in
-    let h′ : Holders = holders e h in
-    let l′ : Link = left l (step l c) in
-    let es : List Exchange = run l′ cs in
-    let now = both {x = not (among (e .number) hindrances)} {y = unhindered es} u in
-    let ps : List (List ℕ) = calls (past a h′ es) in
-    let later : Sees a h′ l′ cs = sees a h′ l′ cs (sound-step h l c ok) (now .1) in
-    by-test (inPast a h e)
-    (λ p.
-    let m = mine a h l c ok (now .0) (concerned a h e p) in
-    let tail = later .seen ∙ ap (λ (o : Own). ruleSights o ps) (m .next) in
-    record {
-      seen = rw p (λ i. record { number = m .number i; records = m .records i } ∷ tail i);
-      has = rw p (later .has ∙ ap (λ (o : Own). ruleAfter o ps) (m .next));
-      alone = rw p (later .alone);
-    })
-    (λ p.
-    let o = others a h l c ok p in
-    record {
-      seen = rw p (later .seen ∙ ap (λ (x : Own). ruleSights x ps) (o .next));
-      has = rw p (later .has ∙ ap (λ (x : Own). ruleAfter x ps) (o .next));
-      alone = rw p (ap₂ (λ (x y : List Record). x ++ y) (o .silent) (later .alone));
-    })
+    let now = both {x = not (among (e .number) hindrances)} {y = unhindered (run (left l (step l c)) cs)} u in
+    sees a (andThen e k) (left l (step l c)) cs (sound-next k l c ok) (now .1) (seen-next a k l c ok s (now .0))
 
 pub holder-somebody : (a : ℕ) (w : Option ℕ) → isHolder a w ≡ true → isNobody w ≡ false
 holder-somebody a none e = absurd (false≢true e)
@@ -181,9 +211,13 @@ held-taken a h i (p ∷ ps) f =
     (λ e. rw (e, rest))
 
 -- At first an address has nothing.
-own-new : (a : ℕ) → own a nobody new ≡ atFirst
-unfolding own new atFirst noReceipts bitOf keep blankFrom
-own-new a = refl
+seen-new : (a : ℕ) → Seen a nothingYet new
+unfolding own new atFirst noReceipts bitOf keep blankFrom nothingYet ruleSights ruleRun ruleAfter
+seen-new a = record { seen = refl; has = refl; alone = refl }
+
+seen-run : (a : ℕ) (cs : List (List ℕ)) → unhindered (run new cs) ≡ true → Seen a (history nothingYet (run new cs)) (after new cs)
+unfolding nothingYet
+seen-run a cs u = sees a nothingYet new cs sound-new u (seen-new a)
 
 own-receipts : (a : ℕ) (h : Holders) (l : Link) → blank a h (l .receipts) ≡ own a h l .receipts
 unfolding own
@@ -192,31 +226,22 @@ own-receipts a h l = refl
 -- The receipts that it holds after a run, by what it has.
 pub held-own :
     (a : ℕ) (cs : List (List ℕ))
-    → heldBy a (holdersAfter nobody (run new cs)) 0 (after new cs .receipts)
-    ≡ takenFrom 0 (own a (holdersAfter nobody (run new cs)) (after new cs) .receipts)
+    → heldBy a (holdersAfter (run new cs)) 0 (after new cs .receipts) ≡ takenFrom 0 (own a (holdersAfter (run new cs)) (after new cs) .receipts)
 held-own a cs =
-    let h : Holders = holdersAfter nobody (run new cs) in
+    let h : Holders = holdersAfter (run new cs) in
     held-taken a h 0 (after new cs .receipts) (λ j. sound-run cs .free j ∙ ap (λ (k : ℕ). isNobody (h k)) (omega arith))
     ∙ ap (takenFrom 0) (own-receipts a h (after new cs))
 
 -- What it has after a run is what the rule keeps.
-pub has-own :
-    (a : ℕ) (cs : List (List ℕ))
-    → unhindered (run new cs) ≡ true
-    → own a (holdersAfter nobody (run new cs)) (after new cs) ≡ ruleAfter atFirst (calls (past a nobody (run new cs)))
-has-own a cs u =
-    sees a nobody new cs sound-new u .has ∙ ap (λ (o : Own). ruleAfter o (calls (past a nobody (run new cs)))) (own-new a)
+pub has-own : (a : ℕ) (cs : List (List ℕ)) → unhindered (run new cs) ≡ true → own a (holdersAfter (run new cs)) (after new cs) ≡ keptByRule a (run new cs)
+has-own a cs u = seen-run a cs u .has
 
 -- Demand 3.
-pub demand3 : Demand3
-demand3 =
+pub demand3 : (cs : List (List ℕ)) → unhindered (run new cs) ≡ true → (a : ℕ) → SeesItsOwnPast (run new cs) (after new cs .receipts) a
+demand3 cs u a =
+    let s = seen-run a cs u in
     record {
-      each =
-          λ cs u a.
-          let s = sees a nobody new cs sound-new u in
-          record {
-            seen = s .seen ∙ ap (λ (o : Own). ruleSights o (calls (past a nobody (run new cs)))) (own-new a);
-            receipts = held-own a cs ∙ ap (λ (o : Own). takenFrom 0 (o .receipts)) (has-own a cs u);
-            alone = s .alone;
-          };
+      seen = s .seen;
+      receipts = held-own a cs ∙ ap (λ (o : Own). takenFrom 0 (o .receipts)) (s .has);
+      alone = s .alone;
     }

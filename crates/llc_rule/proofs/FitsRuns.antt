@@ -2,34 +2,33 @@
 use Prim.Native.Nat.{ℕ, _-_, _^_, _≤_, _<_}
 use native.Mathlib.Nat.{pow-le-pow-right}
 use native.Mathlib.Omega.{arith}
-use mathlib.Core.Path.{_≡_}
-use mathlib.Core.Bool.{Bool, true, false, cond, not, _||_}
+use mathlib.Core.Path.{_≡_, subst}
+use mathlib.Core.Bool.{Bool, true, false, cond}
 use mathlib.Core.List.{List, [], _∷_, map}
 use mathlib.Core.Option.{none, some}
 use borrow.Author.Tests.{leb-true, ltb-true}
 use lib.Dec.{eqb, leb}
-use lib.ListN.{drop, length-drop}
+use lib.ListN.{length-drop}
 use Rattle.bits.proofs.Laws as Bits
-use Rattle.questions.specs.Outcome.{Outcome, accepted, refused, ask}
-use Rattle.llc_pdus.specs.Headers.{Reading, reading, hasFcs}
+use Rattle.questions.specs.Outcome.{accepted}
 use Rattle.llc_pdus.specs.declared.Pdu.{Pdu}
 use Rattle.llc_pdus.specs.declared.Pdu.the-variants.{BlAdata, BlData, BlUdata, BlAck}
 use Rattle.llc_pdus.proofs.Laws.{header-short}
 use Rattle.llc_pdus.proofs.Framing.{all-header, frame-short, all-frame}
-use Rattle.llc_rule.specs.Calls.{Call, start, tickStart, tickEnd, dataRequest, unitdataRequest, frame, report, release, Request, Frame, parsed}
-use Rattle.llc_rule.specs.Ranges.{hasMask, requestInRange, frameInRange, inRange}
+use Rattle.llc_rule.specs.Calls.{Call, start, tickStart, tickEnd, request, frame, byReceipt, Request, Frame, parsed}
+use Rattle.llc_rule.specs.Ranges.{hasMask, requestInRange, frameInRange}
 use Rattle.llc_rule.specs.Records.{Record, acknowledged, unacknowledged}
-use Rattle.llc_rule.specs.Received.{Received, checks, checked, received, nsOf, nrOf, indication, upward}
+use Rattle.llc_rule.specs.Received.{Received, indication, upward}
 use Rattle.llc_rule.specs.Messages.{Due, stealsSlot, replyTo, carrierOf, sentOf}
-use Rattle.llc_rule.specs.Done.{Done}
 use Rattle.llc_rule.specs.Link.{Link, new}
-use Rattle.llc_rule.specs.Step.{onData, onUnitdata, onReceived, onFrame, onReport, onRelease, retransmissions, firstSendings, onTickEnd, receiptFree, onAcknowledgedPath, rowFor, acknowledgedPlace, unacknowledgedPlace, dueRoom, mayFinish, reportable, releasable, isStart, act, called, step}
+use Rattle.llc_rule.specs.Step.{retransmissions, firstSendings, onTickEnd, step}
 use Rattle.llc_rule.specs.Runs.{left, given, Exchange, run}
 use Rattle.llc_rule.specs.Sound.{All}
 use Rattle.llc_rule.specs.Sizes.{FitsMask, FitsBits, FitsSent, FitsIndication, Fits}
 use Rattle.llc_rule.proofs.Lists.{both, either, by-choice, all-append}
-use Rattle.llc_rule.proofs.Ranges.{request-fields, frame-fields, type-at-most, frame-lengths, request-lengths}
-use Rattle.llc_rule.proofs.Held.{asked, AllHeld, Brought, Brings, BringsIn, held-step, passed-retransmissions, passed-firsts}
+use Rattle.llc_rule.proofs.Paths.{Heard, Paths, step-law}
+use Rattle.llc_rule.proofs.Ranges.{request-fields, frame-fields, type-at-most, frame-lengths, request-lengths, sdu-end}
+use Rattle.llc_rule.proofs.Held.{AllHeld, Brings, held-step, passed-retransmissions, passed-firsts}
 use Rattle.llc_rule.proofs.Values.{IsByte, RequestFits, FrameFits, CallFits, CallFitsIn, parsed-fits}
 
 -- The invariant -----------------------------------------------------------------------------------------------------------
@@ -85,38 +84,28 @@ sent-fits r carrier link p b e hc hl =
 carrier-fits : (main : ℕ) (r : Request) → RequestFits r → main < 2 ^ 16 → carrierOf main r < 2 ^ 16
 carrier-fits main r b h = either (λ (n : ℕ). n < 2 ^ 16) (eqb (r .given) 1) (b .carrier) h
 
-request-brings :
-    (r : Request) → RequestFits r → requestInRange r ≡ true → Brought (λ (n : ℕ). n < 2 ^ 16) FitsSent FitsDue r
-request-brings r b e =
-    record {
-      plain = λ main p h. sent-fits r (carrierOf main r) 0 p b e (carrier-fits main r b h) (omega arith);
-      linked = λ main p h. sent-fits r (carrierOf main r) (r .link) p b e (carrier-fits main r b h) (b .link);
-    }
-
-call-brings : (c : Call) → CallFits c → inRange c ≡ true → Brings (λ (n : ℕ). n < 2 ^ 16) FitsSent FitsDue c
-unfolding inRange
-call-brings (start carrier t251) b e = b
-call-brings (tickStart time) b e = tt
-call-brings tickEnd b e = tt
-call-brings (dataRequest r) b e = request-brings r b e
-call-brings (unitdataRequest r) b e = request-brings r b e
-call-brings (frame f) b e =
-    λ ns slot.
+call-brings : (c : Call) → CallFits c → Brings (λ (n : ℕ). n < 2 ^ 16) FitsSent FitsDue c
+call-brings (start carrier t251) b = b
+call-brings (tickStart time) b = tt
+call-brings tickEnd b = tt
+call-brings (request s r) b =
+    λ e main link p h k. sent-fits r (carrierOf main r) link p b e (carrier-fits main r b h) (omega (arith, k, b .link))
+call-brings (frame f) b =
+    λ e ns slot.
     record {
       ssi = b .ssi;
       type = let k = type-at-most (f .type) (frame-fields f e .type) in omega arith;
       carrier = b .carrier;
     }
-call-brings (report i how) b e = tt
-call-brings (release i) b e = tt
+call-brings (byReceipt i a) b = tt
 
-brings-in : (o : Outcome Call) → CallFitsIn o → BringsIn (λ (n : ℕ). n < 2 ^ 16) FitsSent FitsDue o
-brings-in (refused n) b = tt
-brings-in (accepted c) b = call-brings c b
+-- What the bytes of a call give of it.
+call-fits : (bytes : List ℕ) → All IsByte bytes → (c : Call) → parsed bytes ≡ accepted c → CallFits c
+call-fits bytes a c e = subst CallFitsIn e (parsed-fits bytes a)
 
 -- Any call of bytes leaves the invariant.
 pub fits-step : (l : Link) → FitsLink l → (c : List ℕ) → All IsByte c → FitsLink (left l (step l c))
-fits-step l h c a = held-step _ _ _ l h c (brings-in (parsed c) (parsed-fits c a))
+fits-step l h c a = held-step _ _ _ l h c (λ d e. call-brings d (call-fits c a d e))
 
 -- The records -------------------------------------------------------------------------------------------------------------
 
@@ -163,17 +152,6 @@ tick-end-fits l h =
     (map-fits FitsSent unacknowledged (λ s f. f) (l .unacknowledged) (h .unacknowledged))))
 
 -- What goes up of a frame: a part of it.
-abbrev SduFits : Outcome Received → Type 0
-SduFits (refused n) = Unit {0}
-SduFits (accepted r) = FitsBits (r .sdu)
-
-sdu-fits : (l : List ℕ) (o : Outcome Reading) → FitsBits l → SduFits (checked l o)
-unfolding checked
-sdu-fits l (refused n) h = tt
-sdu-fits l (accepted r) h =
-    asked SduFits 12 (not (hasFcs (r .pdu)) || checks (drop (r .size) l)) _ tt
-    (λ e. record { bits = Bits.all-drop (r .size) l (h .bits); count = omega (arith, length-drop (r .size) l, h .count) })
-
 one-up :
     (f : Frame) (p : Pdu) (link : ℕ) (sdu : List ℕ)
     → FrameFits f
@@ -199,56 +177,34 @@ up-fits f (BlUdata c) sdu b e h = (one-up f (BlUdata c) 0 sdu b e (omega arith) 
 up-fits f (BlAck c nr) [] b e h = tt
 up-fits f (BlAck c nr) (x ∷ sdu) b e h = (one-up f (BlAck c nr) 0 (x ∷ sdu) b e (omega arith) h, tt)
 
--- The records of an outcome fit.
-abbrev Gives : Outcome (Done Link) → Type 0
-Gives o = All Fits (given o)
+heard-fits : (f : Frame) (r : Received) (l : Link) → Heard f r l → FrameFits f → All Fits (upward f (r .header) (r .sdu))
+heard-fits f r l a b =
+    let s = sdu-end (f .pdu) r (a .apart) in
+    up-fits f (r .header) (r .sdu) b (a .range)
+    (rw (s .is)
+    (record {
+      bits = Bits.all-drop (s .from) (f .pdu) (b .pdu);
+      count = omega (arith, length-drop (s .from) (f .pdu), frame-lengths f (a .range) .1);
+    }))
 
-ask-gives : (n : ℕ) (b : Bool) (o : Outcome (Done Link)) → Gives o → Gives (ask n b o)
-ask-gives n b o f = asked Gives n b o tt (λ e. f)
-
-received-gives :
-    (f : Frame) (o : Outcome Received) (l : Link) → FrameFits f → frameInRange f ≡ true → SduFits o → Gives (onReceived f o l)
-unfolding onReceived
-received-gives f (refused n) l b e s = tt
-received-gives f (accepted r) l b e s =
-    ask-gives 13 (dueRoom (nsOf (r .header)) l) _
-    (ask-gives 14 (mayFinish f (nrOf (r .header)) l) _ (up-fits f (r .header) (r .sdu) b e s))
-
-frame-gives : (f : Frame) (l : Link) → FrameFits f → frameInRange f ≡ true → Gives (onFrame f l)
-unfolding onFrame received
-frame-gives f l b e =
-    received-gives f (received (f .pdu)) l b e
-    (sdu-fits (f .pdu) (reading (f .pdu)) (record { bits = b .pdu; count = omega (arith, frame-lengths f e .1) }))
-
-data-gives : (r : Request) (l : Link) → Gives (onData r l)
-unfolding onData
-data-gives r l =
-    ask-gives 6 (receiptFree r l) _
-    (either Gives (onAcknowledgedPath r)
-    (ask-gives 7 (rowFor r l) _ (ask-gives 8 (acknowledgedPlace l) _ tt))
-    (ask-gives 8 (unacknowledgedPlace l) _ tt))
-
-act-gives : (l : Link) → FitsLink l → (c : Call) → CallFits c → inRange c ≡ true → Gives (act c l)
-unfolding act inRange onUnitdata onReport onRelease
-act-gives l h (start carrier t251) b e = tt
-act-gives l h (tickStart time) b e = tt
-act-gives l h tickEnd b e = tick-end-fits l h
-act-gives l h (dataRequest r) b e = data-gives r l
-act-gives l h (unitdataRequest r) b e = ask-gives 6 (receiptFree r l) _ (ask-gives 8 (unacknowledgedPlace l) _ tt)
-act-gives l h (frame f) b e = frame-gives f l b e
-act-gives l h (report i how) b e = ask-gives 15 (reportable i l) _ tt
-act-gives l h (release i) b e = ask-gives 16 (releasable i l) _ tt
-
-called-gives : (l : Link) → FitsLink l → (o : Outcome Call) → CallFitsIn o → Gives (called l o)
-unfolding called
-called-gives l h (refused n) b = tt
-called-gives l h (accepted c) b =
-    ask-gives 4 (isStart c || l .started) _ (asked Gives 5 (inRange c) (act c l) tt (λ e. act-gives l h c b e))
+-- The records of each path.
+fits-paths : (l : Link) → FitsLink l → Paths l (λ c k rs. CallFits c → All Fits rs)
+fits-paths l h =
+    record {
+      start = λ carrier t251 b. tt;
+      tickStart = λ time b. tt;
+      tickEnd = λ b. tick-end-fits l h;
+      acknowledged = λ r a b. tt;
+      unacknowledged = λ s r link p used a b. tt;
+      heard = λ f r a b. heard-fits f r l a b;
+      reported = λ i how a b. tt;
+      released = λ i a b. tt;
+    }
 
 -- The records of any call of bytes.
 pub fits-given : (l : Link) → FitsLink l → (c : List ℕ) → All IsByte c → All Fits (given (step l c))
-unfolding step
-fits-given l h c a = called-gives l h (parsed c) (parsed-fits c a)
+fits-given l h c a =
+    step-law l _ (fits-paths l h) c (λ o. All Fits (given o)) (λ n k. tt) (λ d o e p. p (call-fits c a d e))
 
 -- Runs --------------------------------------------------------------------------------------------------------------------
 

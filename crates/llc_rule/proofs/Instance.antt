@@ -8,10 +8,10 @@ use mathlib.Core.List.{List, [], _∷_, _++_, map}
 use lib.Dec.{eqb}
 use Rattle.llc_rule.specs.Lists.{any, all}
 use Rattle.llc_rule.specs.Calls.{toBytes}
-use Rattle.llc_rule.specs.Records.{Record, acknowledged, reply, unacknowledged, dataUp, unitdataUp}
+use Rattle.llc_rule.specs.Records.{Record, kind}
 use Rattle.llc_rule.specs.Link.{new}
 use Rattle.llc_rule.specs.Runs.{Exchange, run, after}
-use Rattle.llc_rule.specs.Claim.{unhindered, SeesItsOwnPast}
+use Rattle.llc_rule.specs.Seen.{unhindered, SeesItsOwnPast}
 use Rattle.llc_rule.proofs.Demand3.{demand3}
 use Rattle.llc_rule.proofs.Runs.{Told, hex, _gets_, _and_, exchanges, agrees}
 
@@ -135,16 +135,9 @@ pub turned-agrees : agrees new turned ≡ true
 unfolding agrees turned opening following
 turned-agrees = refl
 
--- Field 01 of a record, and the kinds and numbers that come up in a run.
-abbrev kindOf : Record → ℕ
-kindOf (acknowledged s) = 1
-kindOf (reply r) = 2
-kindOf (unacknowledged s) = 3
-kindOf (dataUp i) = 4
-kindOf (unitdataUp i) = 5
-
+-- The kinds and numbers that come up in a run.
 unfoldable pub hasKind : List Exchange → ℕ → Bool
-hasKind es k = any (λ (e : Exchange). any (λ (r : Record). eqb (kindOf r) k) (e .records)) es
+hasKind es k = any (λ (e : Exchange). any (λ (r : Record). eqb (kind r) k) (e .records)) es
 
 unfoldable pub hasNumber : List Exchange → ℕ → Bool
 hasNumber es n = any (λ (e : Exchange). eqb (e .number) n) es
@@ -168,4 +161,4 @@ unhindered-turned = refl
 
 -- So demand 3 says of it what it says of every address.
 pub sees-instance : (a : ℕ) → SeesItsOwnPast (run new instanceCalls) (after new instanceCalls .receipts) a
-sees-instance = demand3 .each instanceCalls unhindered-instance
+sees-instance = demand3 instanceCalls unhindered-instance

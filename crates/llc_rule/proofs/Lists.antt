@@ -138,6 +138,15 @@ module _ {A : Type 0} where
       (λ e. rw e (record { front = []; back = l; whole = refl; rest = refl; passes = e; before = refl }))
       (λ e. rw e (found-behind p y l e (find p l) (find-by p l)))
 
+  -- One that was taken out of a list, if any was.
+  abbrev pub TakenOut : (A → Bool) → List A → Found A → Type 0
+  TakenOut p l nothing = Unit {0}
+  TakenOut p l (first x xs) = Split p l x xs
+
+  pub found-out : (p : A → Bool) (l : List A) (f : Found A) → FoundBy p l f → TakenOut p l f
+  found-out p l nothing s = tt
+  found-out p l (first x xs) s = s
+
 -- Any element read in a list that was written.
 pub getD-set : {A : Type 0} (l : List A) (i j : ℕ) (v d : A) → i < length l → getD (set l i v) j d ≡ cond (eqb j i) v (getD l j d)
 getD-set l i j v d h =

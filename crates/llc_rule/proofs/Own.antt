@@ -21,7 +21,7 @@ use Rattle.llc_rule.specs.Rule.{Own, keeping}
 use Rattle.llc_rule.specs.Past.{Holders, holding, isHolder}
 use Rattle.llc_rule.specs.Sound.{All, ofAddress}
 use Rattle.llc_rule.proofs.Places.{place-set, place-mark, length-mark}
-use Rattle.llc_rule.proofs.Lists.{by-test, clash, keep-yes, keep-no, keep-append, FoundBy, find-by}
+use Rattle.llc_rule.proofs.Lists.{by-test, clash, keep-yes, keep-no, keep-append, find-by, TakenOut, found-out}
 
 abbrev pub sentTo : ℕ → Sent → Bool
 sentTo a s = eqb (s .ssi) a
@@ -29,8 +29,8 @@ sentTo a s = eqb (s .ssi) a
 abbrev pub dueTo : ℕ → Due → Bool
 dueTo a d = eqb (d .ssi) a
 
-abbrev pub about : ℕ → Record → Bool
-about a r = eqb (ssiOf r) a
+abbrev pub ofSsi : ℕ → Record → Bool
+ofSsi a r = eqb (ssiOf r) a
 
 -- The receipts that an address holds; the places of the others are free.
 unfoldable pub blankFrom : ℕ → Holders → ℕ → List Place → List Place
@@ -94,9 +94,6 @@ own-parts a h h′ l l′ all bits messages sents dues places =
 unfoldable pub seenAs : {S T : Type 0} → (S → T) → (List Record → List Record) → Outcome (Done S) → Outcome (Done T)
 seenAs f g (accepted d) = accepted (done (f (d .state)) (g (d .records)))
 seenAs f g (refused n) = refused n
-
-pub accepted-same : {A : Type 0} {x y : A} → accepted x ≡ accepted y → x ≡ y
-accepted-same e = cc
 
 -- Places ----------------------------------------------------------------------------------------------------------------------
 
@@ -212,9 +209,9 @@ module _ {A : Type 0} where
       (λ e. rw e (find-keep mine p l ∙ sym (skip-behind mine y (find (λ (x : A). mine x && p x) l) e)))
 
   -- Taking out one that is not mine leaves mine as they are.
-  keep-found : (mine p : A → Bool) (l : List A) → ((x : A) → p x ≡ true → mine x ≡ false) → (f : Found A) → FoundBy p l f → keep mine (others f l) ≡ keep mine l
-  keep-found mine p l g nothing s = refl
-  keep-found mine p l g (first x xs) s =
+  pub keep-taken : (mine p : A → Bool) (l : List A) → ((x : A) → p x ≡ true → mine x ≡ false) → (f : Found A) → TakenOut p l f → keep mine (others f l) ≡ keep mine l
+  keep-taken mine p l g nothing s = refl
+  keep-taken mine p l g (first x xs) s =
       ap (keep mine) (s .rest)
       ∙ keep-append mine (s .front) (s .back)
       ∙ ap (λ (t : List A). keep mine (s .front) ++ t) (sym (keep-no mine x (s .back) (g x (s .passes))))
@@ -222,7 +219,7 @@ module _ {A : Type 0} where
       ∙ ap (keep mine) (sym (s .whole))
 
   pub keep-others : (mine p : A → Bool) (l : List A) → ((x : A) → p x ≡ true → mine x ≡ false) → keep mine (others (find p l) l) ≡ keep mine l
-  keep-others mine p l g = keep-found mine p l g (find p l) (find-by p l)
+  keep-others mine p l g = keep-taken mine p l g (find p l) (found-out p l (find p l) (find-by p l))
 
   pub keep-map : {B : Type 0} (q : B → Bool) (mine : A → Bool) (f : A → B) (l : List A) → ((x : A) → q (f x) ≡ mine x) → keep q (map f l) ≡ map f (keep mine l)
   unfolding keep

@@ -17,19 +17,11 @@ use Rattle.llc_pdus.specs.Headers.{bit}
 use Rattle.llc_pdus.specs.Writes.{longestSent}
 use Rattle.llc_rule.specs.Limits.{longestFrame}
 use Rattle.llc_rule.specs.Calls.{fromBytes, toBytes}
-use Rattle.llc_rule.specs.Records.{Record, acknowledged, reply, unacknowledged, dataUp, unitdataUp, Sent, Reply, Indication, field, number, packed, pack, counted, masked, countedIfAny, sentBytes, replyBytes, indicationBytes, bytes, allBytes}
+use Rattle.llc_rule.specs.Records.{Record, acknowledged, reply, unacknowledged, dataUp, unitdataUp, Sent, Reply, Indication, field, number, packed, pack, counted, masked, countedIfAny, sentBytes, replyBytes, indicationBytes, bytes, allBytes, kind}
 use Rattle.llc_rule.specs.Sound.{All}
 use Rattle.llc_rule.specs.Sizes.{Fits, FitsMask, FitsBits, FitsSent, FitsReply, FitsIndication, SmallSent}
 
 -- How records begin -------------------------------------------------------------------------------------------------------
-
--- The number of a record's kind.
-abbrev pub kind : Record → ℕ
-kind (acknowledged s) = 1
-kind (reply r) = 2
-kind (unacknowledged s) = 3
-kind (dataUp i) = 4
-kind (unitdataUp i) = 5
 
 -- A record's bytes begin with field 01 and its kind.
 pub begins : (r : Record) → bytes r ≡ 0x01 ∷ 0x00 ∷ 0x01 ∷ kind r ∷ drop 4 (bytes r)

@@ -2,34 +2,32 @@
 use Prim.Native.Nat.{ℕ, _+_, _*_, _≤_}
 use native.Mathlib.Omega.{arith}
 use mathlib.Core.Path.{_≡_, refl, sym}
-use mathlib.Core.Bool.{Bool, true, cond, not, _||_}
+use mathlib.Core.Bool.{true, cond}
 use mathlib.Core.List.{List, [], _∷_, _++_, append-assoc, append-nil, map}
 use mathlib.Core.Option.{Option, none, some}
 use lib.Dec.{ltb}
-use lib.ListN.{length, drop, length-append, length-drop}
-use Rattle.questions.specs.Outcome.{Outcome, accepted, refused, ask}
+use lib.ListN.{length, length-append, length-drop}
 use Rattle.tdma_time.specs.declared.TdmaTime.{TdmaTime}
-use Rattle.llc_pdus.specs.Headers.{Reading, reading, hasFcs}
 use Rattle.llc_pdus.specs.declared.Pdu.{Pdu}
 use Rattle.llc_pdus.proofs.Framing.{frame-short}
 use Rattle.llc_pdus.specs.declared.Pdu.the-variants.{BlAdata, BlData, BlUdata, BlAck}
 use Rattle.llc_rule.specs.Limits.{longestFrame, outputBytes}
 use Rattle.llc_rule.specs.Lists.{Visit, walk, among}
-use Rattle.llc_rule.specs.Calls.{Call, start, tickStart, tickEnd, dataRequest, unitdataRequest, frame, report, release, Request, Frame, parsed}
-use Rattle.llc_rule.specs.Ranges.{requestInRange, frameInRange, inRange}
+use Rattle.llc_rule.specs.Calls.{Call, start, tickStart, tickEnd, request, frame, byReceipt, Request, Frame}
+use Rattle.llc_rule.specs.Ranges.{requestInRange}
 use Rattle.llc_rule.specs.Records.{Record, acknowledged, unacknowledged, Sent, Indication, indicationBytes, bytes, allBytes}
-use Rattle.llc_rule.specs.Received.{Received, checks, checked, received, nsOf, nrOf, indication, upward}
+use Rattle.llc_rule.specs.Received.{Received, indication, upward}
 use Rattle.llc_rule.specs.Messages.{Message, Due, sentOf, Place, overdue, replyTo}
-use Rattle.llc_rule.specs.Done.{Done}
 use Rattle.llc_rule.specs.Link.{Link, new}
-use Rattle.llc_rule.specs.Step.{timed, stay, resend, leave, agedBy, retransmission, Sending, firstSending, retransmissions, firstSendings, onTickEnd, receiptFree, onAcknowledgedPath, rowFor, acknowledgedPlace, unacknowledgedPlace, reportable, releasable, isStart, dueRoom, mayFinish, onReceived, onFrame, onData, onUnitdata, onReport, onRelease, act, called, step}
+use Rattle.llc_rule.specs.Step.{timed, stay, resend, leave, agedBy, retransmission, Sending, firstSending, retransmissions, firstSendings, onTickEnd, step}
 use Rattle.llc_rule.specs.Runs.{left, given, after}
 use Rattle.llc_rule.specs.Sound.{All, Within}
 use Rattle.llc_rule.specs.Sizes.{SmallSent, Small}
 use Rattle.llc_rule.proofs.Lists.{by-test, either}
+use Rattle.llc_rule.proofs.Paths.{Heard, Paths, step-law}
 use Rattle.llc_rule.proofs.Records.{mostSent, small-sent, small-reply, small-indication}
-use Rattle.llc_rule.proofs.Ranges.{frame-lengths, request-lengths}
-use Rattle.llc_rule.proofs.Held.{asked, passed-retransmissions, passed-firsts, AllHeld, Brought, BringsIn, held-step}
+use Rattle.llc_rule.proofs.Ranges.{frame-lengths, request-lengths, sdu-end}
+use Rattle.llc_rule.proofs.Held.{passed-retransmissions, passed-firsts, AllHeld, Brings, held-step}
 
 -- Bytes of several records ------------------------------------------------------------------------------------------------
 
@@ -175,32 +173,9 @@ tick-end-room l w h =
 
 -- Any call ----------------------------------------------------------------------------------------------------------------
 
--- The records of an outcome have room.
-abbrev HasRoom : Outcome (Done Link) → Type 0
-HasRoom o = length (allBytes (given o)) ≤ outputBytes
-
 no-records : length (allBytes []) ≤ outputBytes
 unfolding allBytes
 no-records = omega arith
-
-ask-room : (n : ℕ) (b : Bool) (o : Outcome (Done Link)) → (b ≡ true → HasRoom o) → HasRoom (ask n b o)
-ask-room n b o f = asked HasRoom n b o no-records f
-
--- The SDU of a frame is no longer than the frame.
-abbrev Shorter : List ℕ → Outcome Received → Type 0
-Shorter l (refused n) = Unit {0}
-Shorter l (accepted r) = length (r .sdu) ≤ length l
-
-shorter-checked : (l : List ℕ) (o : Outcome Reading) → Shorter l (checked l o)
-unfolding checked
-shorter-checked l (refused n) = tt
-shorter-checked l (accepted r) =
-    let n = length-drop (r .size) l in
-    asked (Shorter l) 12 (not (hasFcs (r .pdu)) || checks (drop (r .size) l)) _ tt (λ e. omega arith)
-
-pub shorter : (l : List ℕ) → Shorter l (received l)
-unfolding received
-shorter l = shorter-checked l (reading l)
 
 -- What goes up of a frame in range.
 one-up :
@@ -221,66 +196,30 @@ up-room f (BlUdata c) sdu hb hs = one-up 5 (indication f (BlUdata c) 0 sdu) hb h
 up-room f (BlAck c nr) [] hb hs = omega arith
 up-room f (BlAck c nr) (b ∷ sdu) hb hs = one-up 4 (indication f (BlAck c nr) 0 (b ∷ sdu)) hb hs
 
-received-room :
-    (f : Frame) (o : Outcome Received) (l : Link)
-    → length (f .block) ≤ 64
-    → length (f .pdu) ≤ longestFrame
-    → Shorter (f .pdu) o
-    → HasRoom (onReceived f o l)
-unfolding onReceived
-received-room f (refused n) l hb hp s = no-records
-received-room f (accepted r) l hb hp s =
-    ask-room 13 (dueRoom (nsOf (r .header)) l) _
-    (λ e. ask-room 14 (mayFinish f (nrOf (r .header)) l) _ (λ e. up-room f (r .header) (r .sdu) hb (omega arith)))
+heard-room : (f : Frame) (r : Received) (l : Link) → Heard f r l → length (allBytes (upward f (r .header) (r .sdu))) ≤ outputBytes
+heard-room f r l a =
+    let n = frame-lengths f (a .range) in
+    let s = sdu-end (f .pdu) r (a .apart) in
+    up-room f (r .header) (r .sdu) (n .0) (rw (s .is) (omega (arith, n .1, length-drop (s .from) (f .pdu))))
 
-frame-room : (f : Frame) (l : Link) → frameInRange f ≡ true → HasRoom (onFrame f l)
-unfolding onFrame
-frame-room f l h =
-    let n = frame-lengths f h in
-    received-room f (received (f .pdu)) l (n .0) (n .1) (shorter (f .pdu))
-
-data-room : (r : Request) (l : Link) → HasRoom (onData r l)
-unfolding onData
-data-room r l =
-    ask-room 6 (receiptFree r l) _
-    (λ e.
-    either HasRoom (onAcknowledgedPath r)
-    (ask-room 7 (rowFor r l) _ (λ e. ask-room 8 (acknowledgedPlace l) _ (λ e. no-records)))
-    (ask-room 8 (unacknowledgedPlace l) _ (λ e. no-records)))
-
-unitdata-room : (r : Request) (l : Link) → HasRoom (onUnitdata r l)
-unfolding onUnitdata
-unitdata-room r l = ask-room 6 (receiptFree r l) _ (λ e. ask-room 8 (unacknowledgedPlace l) _ (λ e. no-records))
-
-report-room : (i how : ℕ) (l : Link) → HasRoom (onReport i how l)
-unfolding onReport
-report-room i how l = ask-room 15 (reportable i l) _ (λ e. no-records)
-
-release-room : (i : ℕ) (l : Link) → HasRoom (onRelease i l)
-unfolding onRelease
-release-room i l = ask-room 16 (releasable i l) _ (λ e. no-records)
-
-act-room : (l : Link) → Within l → Small l → (c : Call) → inRange c ≡ true → HasRoom (act c l)
-unfolding act inRange
-act-room l w h (start carrier t251) e = no-records
-act-room l w h (tickStart time) e = no-records
-act-room l w h tickEnd e = tick-end-room l w h
-act-room l w h (dataRequest r) e = data-room r l
-act-room l w h (unitdataRequest r) e = unitdata-room r l
-act-room l w h (frame f) e = frame-room f l e
-act-room l w h (report i how) e = report-room i how l
-act-room l w h (release i) e = release-room i l
-
-called-room : (l : Link) → Within l → Small l → (o : Outcome Call) → HasRoom (called l o)
-unfolding called
-called-room l w h (refused n) = no-records
-called-room l w h (accepted c) =
-    ask-room 4 (isStart c || l .started) _ (λ e. ask-room 5 (inRange c) _ (λ e. act-room l w h c e))
+-- The records of each path.
+room-paths : (l : Link) → Within l → Small l → Paths l (λ c k rs. length (allBytes rs) ≤ outputBytes)
+room-paths l w h =
+    record {
+      start = λ carrier t251. no-records;
+      tickStart = λ time. no-records;
+      tickEnd = tick-end-room l w h;
+      acknowledged = λ r a. no-records;
+      unacknowledged = λ s r link p used a. no-records;
+      heard = λ f r a. heard-room f r l a;
+      reported = λ i how a. no-records;
+      released = λ i a. no-records;
+    }
 
 -- The records of any call.
 pub room : (l : Link) → Within l → Small l → (c : List ℕ) → length (allBytes (given (step l c))) ≤ outputBytes
-unfolding step
-room l w h c = called-room l w h (parsed c)
+room l w h c =
+    step-law l _ (room-paths l w h) c (λ o. length (allBytes (given o)) ≤ outputBytes) (λ n k. no-records) (λ d o e p. p)
 
 -- The messages stay small -------------------------------------------------------------------------------------------------
 
@@ -295,20 +234,13 @@ sent-small r carrier link p e =
 abbrev SmallHeld : Link → Type 0
 SmallHeld l = AllHeld (λ (n : ℕ). Unit {0}) SmallSent (λ (d : Due). Unit {0}) l
 
-request-brings : (r : Request) → requestInRange r ≡ true → Brought (λ (n : ℕ). Unit {0}) SmallSent (λ (d : Due). Unit {0}) r
-request-brings r e = record { plain = λ main p h. sent-small r _ _ p e; linked = λ main p h. sent-small r _ _ p e }
-
-brings : (o : Outcome Call) → BringsIn (λ (n : ℕ). Unit {0}) SmallSent (λ (d : Due). Unit {0}) o
-unfolding inRange
-brings (refused n) = tt
-brings (accepted (start carrier t251)) = λ e. tt
-brings (accepted (tickStart time)) = λ e. tt
-brings (accepted tickEnd) = λ e. tt
-brings (accepted (dataRequest r)) = request-brings r
-brings (accepted (unitdataRequest r)) = request-brings r
-brings (accepted (frame f)) = λ e ns slot. tt
-brings (accepted (report i how)) = λ e. tt
-brings (accepted (release i)) = λ e. tt
+call-brings : (c : Call) → Brings (λ (n : ℕ). Unit {0}) SmallSent (λ (d : Due). Unit {0}) c
+call-brings (start carrier t251) = tt
+call-brings (tickStart time) = tt
+call-brings tickEnd = tt
+call-brings (request s r) = λ e main link p h k. sent-small r _ link p e
+call-brings (frame f) = λ e ns slot. tt
+call-brings (byReceipt i a) = tt
 
 pub new-small : Small new
 unfolding new
@@ -319,7 +251,7 @@ pub small-step : (l : Link) → Small l → (c : List ℕ) → Small (left l (st
 small-step l h c =
     let before : SmallHeld l =
     record { carrier = tt; acknowledged = h .acknowledged; unacknowledged = h .unacknowledged; due = all-unit (l .due) } in
-    let then = held-step _ _ _ l before c (brings (parsed c)) in
+    let then = held-step _ _ _ l before c (λ d e. call-brings d) in
     record { acknowledged = then .acknowledged; unacknowledged = then .unacknowledged }
 
 pub small-after : (l : Link) → Small l → (cs : List (List ℕ)) → Small (after l cs)

@@ -7,7 +7,6 @@ use mathlib.Core.Option.{Option, none, some}
 use borrow.Author.Tests.{eq-eqb, eqb-true, not-true}
 use lib.Dec.{eqb}
 use Rattle.questions.specs.Outcome.{accepted}
-use Rattle.questions.proofs.Asked.{accepted-passed}
 use Rattle.tx_receipt.specs.Marks as Marks
 use Rattle.llc_pdus.specs.declared.Pdu.{Pdu}
 use Rattle.llc_pdus.specs.declared.Pdu.the-variants.{BlAdata, BlData, BlUdata, BlAck}
@@ -16,14 +15,14 @@ use Rattle.llc_rule.specs.Calls.{Frame}
 use Rattle.llc_rule.specs.Records.{Record, dataUp, ssiOf}
 use Rattle.llc_rule.specs.Received.{Received, nsOf, nrOf, indication, unlessEmpty, upward}
 use Rattle.llc_rule.specs.Messages.{Message, Due, Place, mark, slotBefore}
-use Rattle.llc_rule.specs.Done.{Done}
 use Rattle.llc_rule.specs.Link.{Link, withQueues, bitOf}
 use Rattle.llc_rule.specs.Step.{dueRoom, withDue, awaiting, fits, finishable, mayFinish, answeredBy, answered, dueNow, onReceived}
 use Rattle.llc_rule.specs.Rule.{Own, keeping, madeDue, theOne, oneTransmitted, canFinish, finished, heard, afterReceived}
 use Rattle.llc_rule.specs.Past.{Holders, isHolder}
 use Rattle.llc_rule.specs.Sound.{All, Owned, ofAddress, oneAhead, Sound}
 use Rattle.llc_rule.proofs.Lists.{by-test, both, neither, if-true, if-false, and-true, and-false, keep-yes, keep-no, keep-append, Split, FoundBy, find-by, all-back}
-use Rattle.llc_rule.proofs.Own.{sentTo, dueTo, blank, own, seenAs, accepted-same, keepFound, find-keep, keep-others, place-own, own-parts, blank-mark, blank-mark-other}
+use Rattle.llc_rule.proofs.Paths.{afterHeard}
+use Rattle.llc_rule.proofs.Own.{sentTo, dueTo, blank, own, seenAs, keepFound, find-keep, keep-others, place-own, own-parts, blank-mark, blank-mark-other}
 
 none-found : {A : Type 0} (p : A → Bool) (l : List A) → any p l ≡ false → find p l ≡ nothing
 unfolding find any
@@ -297,21 +296,12 @@ module _ (a : ℕ) (f : Frame) (h : Holders) (l : Link) (ok : Sound h l) (other 
   unless-empty [] r e = refl
   unless-empty (b ∷ s) r e = rw e
 
-  upward-other : (p : Pdu) (s : List ℕ) → keep (λ (q : Record). eqb (ssiOf q) a) (upward f p s) ≡ []
+  pub upward-other : (p : Pdu) (s : List ℕ) → keep (λ (q : Record). eqb (ssiOf q) a) (upward f p s) ≡ []
   unfolding upward keep
   upward-other (BlAdata c nr ns) s = rw other
   upward-other (BlData c ns) s = rw other
   upward-other (BlUdata c) s = rw other
   upward-other (BlAck c nr) s = unless-empty s (dataUp (indication f (BlAck c nr) 0 s)) other
 
-  pub received-other :
-      (r : Received) (d : Done Link)
-      → onReceived f (accepted r) l ≡ accepted d
-      → (own a h (d .state) ≡ own a h l) × (keep (λ (q : Record). eqb (ssiOf q) a) (d .records) ≡ [])
-  unfolding onReceived
-  received-other r d e =
-      let asked13 = accepted-passed 13 (dueRoom (nsOf (r .header)) l) (sym e) in
-      let asked14 = accepted-passed 14 (mayFinish f (nrOf (r .header)) l) (asked13 .1) in
-      subst (λ (z : Done Link). (own a h (z .state) ≡ own a h l) × (keep (λ (q : Record). eqb (ssiOf q) a) (z .records) ≡ []))
-      (sym (accepted-same (asked14 .1)))
-      (heard-other (nrOf (r .header)) (nsOf (r .header)), upward-other (r .header) (r .sdu))
+  pub heard-unseen : (r : Received) → own a h (afterHeard f r l) ≡ own a h l
+  heard-unseen r = heard-other (nrOf (r .header)) (nsOf (r .header))

@@ -1,17 +1,16 @@
 -- A report and a release, as the address that holds the receipt has them and as another address does.
 use Prim.Native.Nat.{ℕ, _<_}
 use mathlib.Core.Path.{_≡_, _∙_, refl, sym, ap, ap₂}
-use mathlib.Core.Bool.{true, false, cond, not, _&&_, _||_}
+use mathlib.Core.Bool.{true, false, not, _&&_, _||_}
 use mathlib.Core.List.{List}
 use mathlib.Core.Option.{none, some, Option·some-injective}
 use borrow.Author.Tests.{eq-eqb, eqb-true}
 use lib.Dec.{eqb}
 use lib.ListN.{length, set}
-use Rattle.tx_receipt.specs.Marks as Marks
 use Rattle.tx_receipt.specs.Marks.{Mark}
 use Rattle.llc_rule.specs.Lists.{keep, any}
 use Rattle.llc_rule.specs.Records.{Record, Sent}
-use Rattle.llc_rule.specs.Messages.{Message, Place, free, placeAt, mark}
+use Rattle.llc_rule.specs.Messages.{Message, Place, free, placeAt, mark, markOf}
 use Rattle.llc_rule.specs.Link.{Link, withReceipts}
 use Rattle.llc_rule.specs.Step.{held, waits, reportable, releasable, onReport, onRelease}
 use Rattle.llc_rule.specs.Rule.{keeping, stillWaits, stillHeld, afterReport, afterRelease}
@@ -72,9 +71,7 @@ module _ (a i : ℕ) (h : Holders) (l : Link) (who : h i ≡ some a) (ok : Sound
   unfolding afterReport onReport seenAs
   report-own how =
       rw (waits-own, place-is)
-      (by-test (reportable i l)
-      (λ t. rw t (by-test (eqb how 1) (λ e. rw (e, receipts-own Marks.transmitted, place-is)) (λ e. rw (e, receipts-own Marks.discarded, place-is))))
-      (λ t. rw t))
+      (by-test (reportable i l) (λ t. rw (t, receipts-own (markOf how), place-is)) (λ t. rw t))
 
   freed-own : i < length (l .receipts) → own a (holding i none h) (withReceipts l (set (l .receipts) i free)) ≡ keeping (own a h l) (own a h l .bit) (own a h l .acknowledged) (own a h l .unacknowledged) (own a h l .due) (set (own a h l .receipts) i free)
   unfolding own
@@ -90,17 +87,11 @@ module _ (a i : ℕ) (h : Holders) (l : Link) (who : h i ≡ some a) (ok : Sound
 
 -- Another address's report or release changes nothing of an address.
 module _ (a i : ℕ) (h : Holders) (l : Link) (other : isHolder a (h i) ≡ false) where
-  receipts-other : (k : Mark) → own a h (withReceipts l (mark k i (l .receipts))) ≡ own a h l
+  pub receipts-other : (k : Mark) → own a h (withReceipts l (mark k i (l .receipts))) ≡ own a h l
   unfolding own
   receipts-other k =
       let places = blank-mark-other a h k i (l .receipts) other in
       own-parts a h h l (withReceipts l (mark k i (l .receipts))) refl refl refl refl refl places
-
-  pub report-other :
-      (how : ℕ)
-      → own a h (withReceipts l (cond (eqb how 1) (mark Marks.transmitted i (l .receipts)) (mark Marks.discarded i (l .receipts)))) ≡ own a h l
-  report-other how =
-      by-test (eqb how 1) (λ e. rw e (receipts-other Marks.transmitted)) (λ e. rw e (receipts-other Marks.discarded))
 
   pub release-other : i < length (l .receipts) → own a (holding i none h) (withReceipts l (set (l .receipts) i free)) ≡ own a h l
   unfolding own

@@ -1,7 +1,7 @@
 -- A request, as its own address has it and as another address does.
 use Prim.Native.Nat.{ℕ, _<_}
 use mathlib.Core.Path.{_≡_, _∙_, refl, sym, ap}
-use mathlib.Core.Bool.{Bool, true, false, cond, not, _&&_, false≢true}
+use mathlib.Core.Bool.{Bool, true, false, cond, not, false≢true}
 use mathlib.Core.List.{List, [], _∷_, _++_, append-nil}
 use mathlib.Core.Option.{some}
 use borrow.Author.Tests.{eq-eqb, eqb-true}
@@ -15,12 +15,13 @@ use Rattle.llc_rule.specs.Ranges.{steals, wantsFcs}
 use Rattle.llc_rule.specs.Records.{Sent}
 use Rattle.llc_rule.specs.Messages.{Message, Due, Place, free, taken, placeAt, isFree, pending, waiting, carrierOf, sentOf}
 use Rattle.llc_rule.specs.Link.{Link, bitOf}
-use Rattle.llc_rule.specs.Step.{dueFor, onAcknowledgedPath, receiptFree, dataPdu, withAcknowledged, withUnacknowledged, withStolen}
+use Rattle.llc_rule.specs.Step.{isDueFor, dueFor, onAcknowledgedPath, dataPdu, withAcknowledged, withUnacknowledged, withStolen}
 use Rattle.llc_rule.specs.Rule.{Own, keeping, dueOn, requested, afterData, afterUnitdata}
 use Rattle.llc_rule.specs.Past.{Holders, holding, isHolder}
 use Rattle.llc_rule.specs.Sound.{ofAddress}
-use Rattle.llc_rule.proofs.Lists.{by-test, both, keep-append}
-use Rattle.llc_rule.proofs.Own.{sentTo, dueTo, blank, own, keepFound, find-keep, keep-others, bit-own, own-parts, bit-other, blank-set, blank-set-other, place-blank}
+use Rattle.llc_rule.proofs.Lists.{by-test, both, keep-append, find-by, TakenOut, found-out}
+use Rattle.llc_rule.proofs.Paths.{Acknowledged, Unacknowledged}
+use Rattle.llc_rule.proofs.Own.{sentTo, dueTo, blank, own, keepFound, find-keep, keep-taken, bit-own, own-parts, bit-other, blank-set, blank-set-other, place-blank}
 
 -- The acknowledgement due, as its address finds it.
 due-own : (r : Request) (h : Holders) (l : Link) → dueOn (carrierOf (l .carrier) r) (own (r .ssi) h l) ≡ keepFound (dueTo (r .ssi)) (dueFor r l)
@@ -201,13 +202,12 @@ blank-free a h ps i e =
     ∙ by-test (isHolder a (h i)) (λ t. rw t) (λ t. rw t)
 
 due-other :
-    (a : ℕ) (r : Request) (l : Link)
+    (a : ℕ) (r : Request) (l : Link) (used : Found Due)
+    → TakenOut (isDueFor r l) (l .due) used
     → eqb (r .ssi) a ≡ false
-    → keep (dueTo a) (others (dueFor r l) (l .due)) ≡ keep (dueTo a) (l .due)
-unfolding dueFor
-due-other a r l e =
-    keep-others (dueTo a) (λ (d : Due). eqb (d .ssi) (r .ssi) && eqb (d .carrier) (carrierOf (l .carrier) r)) (l .due)
-    (λ d t. rw (eqb-true (d .ssi) (r .ssi) (both t .0)) e)
+    → keep (dueTo a) (others used (l .due)) ≡ keep (dueTo a) (l .due)
+due-other a r l used t e =
+    keep-taken (dueTo a) (isDueFor r l) (l .due) (λ d q. rw (eqb-true (d .ssi) (r .ssi) (both q .0)) e) used t
 
 message-other :
     (a : ℕ) (r : Request) (c k : ℕ) (p : Pdu) (ns : Bool) (ms : List Message)
@@ -225,64 +225,37 @@ last-other :
 unfolding sentOf keep
 last-other a r c k p ms e = keep-append (sentTo a) ms (sentOf r c k p ∷ []) ∙ rw e (append-nil (keep (sentTo a) ms))
 
-acknowledged-other :
+pub acknowledged-other :
     (a : ℕ) (r : Request) (h : Holders) (l : Link)
+    → Acknowledged r l
     → eqb (r .ssi) a ≡ false
-    → receiptFree r l ≡ true
     → r .receipt < length (l .receipts)
     → own a (holding (r .receipt) (some (r .ssi)) h) (withAcknowledged r l) ≡ own a h l
-unfolding own withAcknowledged
-acknowledged-other a r h l e fr lt =
+unfolding own withAcknowledged dueFor
+acknowledged-other a r h l k e lt =
     let b : Bool = bitOf (r .ssi) (l .rows) in
     let bits = bit-other a (r .ssi) (not b) (l .rows) e in
     let messages =
     message-other a r (carrierOf (l .carrier) r) 0 (dataPdu r b (dueFor r l)) b (l .acknowledged) e
     in
-    let dues = due-other a r l e in
+    let dues = due-other a r l (dueFor r l) (found-out _ (l .due) (dueFor r l) (find-by _ (l .due))) e in
     let places =
-    blank-set-other a h (r .receipt) (some (r .ssi)) (pending true) (l .receipts) lt e (blank-free a h (l .receipts) (r .receipt) fr)
+    blank-set-other a h (r .receipt) (some (r .ssi)) (pending true) (l .receipts) lt e (blank-free a h (l .receipts) (r .receipt) (k .free))
     in
     own-parts a h (holding (r .receipt) (some (r .ssi)) h) l (withAcknowledged r l) refl bits messages refl dues places
 
 pub unacknowledged-other :
-    (a : ℕ) (r : Request) (h : Holders) (l : Link) (k : ℕ) (p : Pdu) (ds : List Due)
+    (a : ℕ) (r : Request) (h : Holders) (l : Link) (link : ℕ) (p : Pdu) (used : Found Due)
+    → Unacknowledged r link used l
     → eqb (r .ssi) a ≡ false
-    → receiptFree r l ≡ true
     → r .receipt < length (l .receipts)
-    → keep (dueTo a) ds ≡ keep (dueTo a) (l .due)
-    → own a (holding (r .receipt) (some (r .ssi)) h) (withUnacknowledged r k p ds l) ≡ own a h l
+    → own a (holding (r .receipt) (some (r .ssi)) h) (withUnacknowledged r link p (others used (l .due)) l) ≡ own a h l
 unfolding own withUnacknowledged
-unacknowledged-other a r h l k p ds e fr lt dues =
-    let messages = last-other a r (carrierOf (l .carrier) r) k p (l .unacknowledged) e in
+unacknowledged-other a r h l link p used k e lt =
+    let ds : List Due = others used (l .due) in
+    let messages = last-other a r (carrierOf (l .carrier) r) link p (l .unacknowledged) e in
+    let dues = due-other a r l used (k .used) e in
     let places =
-    blank-set-other a h (r .receipt) (some (r .ssi)) (pending false) (l .receipts) lt e (blank-free a h (l .receipts) (r .receipt) fr)
+    blank-set-other a h (r .receipt) (some (r .ssi)) (pending false) (l .receipts) lt e (blank-free a h (l .receipts) (r .receipt) (k .free))
     in
-    own-parts a h (holding (r .receipt) (some (r .ssi)) h) l (withUnacknowledged r k p ds l) refl refl refl messages dues places
-
-stolen-other :
-    (a : ℕ) (r : Request) (h : Holders) (l : Link) (f : Found Due)
-    → keep (dueTo a) (others f (l .due)) ≡ keep (dueTo a) (l .due)
-    → eqb (r .ssi) a ≡ false
-    → receiptFree r l ≡ true
-    → r .receipt < length (l .receipts)
-    → own a (holding (r .receipt) (some (r .ssi)) h) (withStolen r l f) ≡ own a h l
-unfolding withStolen
-stolen-other a r h l nothing d e fr lt = unacknowledged-other a r h l 0 (BlUdata false) (l .due) e fr lt d
-stolen-other a r h l (first x xs) d e fr lt =
-    unacknowledged-other a r h l (r .link) (BlAck (wantsFcs r) (x .nr)) xs e fr lt d
-
-pub data-other :
-    (a : ℕ) (r : Request) (h : Holders) (l : Link)
-    → eqb (r .ssi) a ≡ false
-    → receiptFree r l ≡ true
-    → r .receipt < length (l .receipts)
-    → own a (holding (r .receipt) (some (r .ssi)) h) (afterDataLink r l) ≡ own a h l
-unfolding afterDataLink
-data-other a r h l e fr lt =
-    by-test (onAcknowledgedPath r)
-    (λ t. rw t (acknowledged-other a r h l e fr lt))
-    (λ t.
-    rw t
-    (by-test (steals r)
-    (λ s. rw s (stolen-other a r h l (dueFor r l) (due-other a r l e) e fr lt))
-    (λ s. rw s (stolen-other a r h l nothing refl e fr lt))))
+    own-parts a h (holding (r .receipt) (some (r .ssi)) h) l (withUnacknowledged r link p ds l) refl refl refl messages dues places

@@ -19,7 +19,7 @@ use Rattle.llc_rule.specs.Past.{Holders, isHolder}
 use Rattle.llc_rule.specs.Sound.{All, Owned, ofAddress, oneAhead, Sound}
 use Rattle.llc_rule.proofs.Lists.{by-test, either, ap-cond, if-true, if-false, neither, keep-yes, keep-no, keep-append, all-map}
 use Rattle.llc_rule.proofs.SoundTickEnd.{owned-between, ahead-between}
-use Rattle.llc_rule.proofs.Own.{sentTo, dueTo, about, blank, own, keep-map, place-own, own-parts, blank-mark, blank-mark-other}
+use Rattle.llc_rule.proofs.Own.{sentTo, dueTo, ofSsi, blank, own, keep-map, place-own, own-parts, blank-mark, blank-mark-other}
 
 -- What an address has of a walk follows from what it has of each visit: the same of its own, nothing of the others.
 module _
@@ -85,7 +85,7 @@ timed-sent time ps m =
 -- The first pass: resends.
 module _ (a : ℕ) (h : Holders) (time : TdmaTime) (t251 : ℕ) where
   abbrev shown₁ : Visit (List Place) Message Record → Visit (List Place) Message Record
-  shown₁ v = record { state = blank a h (v .state); stays = keep (toMe a) (v .stays); out = keep (about a) (v .out) }
+  shown₁ v = record { state = blank a h (v .state); stays = keep (toMe a) (v .stays); out = keep (ofSsi a) (v .out) }
 
   stay-own : (ps : List Place) (m : Message) → toMe a m ≡ true → record { state = blank a h ps; stays = m ∷ []; out = [] } ≡ shown₁ (stay ps m)
   unfolding keep
@@ -102,7 +102,7 @@ module _ (a : ℕ) (h : Holders) (time : TdmaTime) (t251 : ℕ) where
       record {
         state = sym (blank-mark a h Marks.reset (m .sent .receipt) ps k) i;
         stays = sym (keep-yes (toMe a) (submittedAfter (suc (m .resends)) m) [] e) i;
-        out = sym (keep-yes (about a) (acknowledged (m .sent)) [] e) i;
+        out = sym (keep-yes (ofSsi a) (acknowledged (m .sent)) [] e) i;
       }
 
   leave-own :
@@ -148,7 +148,7 @@ module _ (a : ℕ) (h : Holders) (time : TdmaTime) (t251 : ℕ) where
       (ap (λ (s : Sent). eqb (s .ssi) a) (timed-sent time ps m) ∙ e)
 
   abbrev Unseen₁ : List Place → Visit (List Place) Message Record → Type 0
-  Unseen₁ ps v = Unseen (retransmission time t251) (looked time t251) (blank a h) (toMe a) (about a) (HeldBySsi h) ps v
+  Unseen₁ ps v = Unseen (retransmission time t251) (looked time t251) (blank a h) (toMe a) (ofSsi a) (HeldBySsi h) ps v
 
   aged-other :
       (ps : List Place) (m : Message) (x : Option TdmaTime)
@@ -163,7 +163,7 @@ module _ (a : ℕ) (h : Holders) (time : TdmaTime) (t251 : ℕ) where
       (record {
         state = blank-mark-other a h Marks.reset (m .sent .receipt) ps k;
         stays = keep-no (toMe a) (submittedAfter (suc (m .resends)) m) [] e;
-        out = keep-no (about a) (acknowledged (m .sent)) [] e;
+        out = keep-no (ofSsi a) (acknowledged (m .sent)) [] e;
       })
       (record {
         state = blank-mark-other a h Marks.lost (m .sent .receipt) ps k;
@@ -190,7 +190,7 @@ module _ (a : ℕ) (h : Holders) (time : TdmaTime) (t251 : ℕ) where
       → All (HeldBySsi h) ms
       → walk (looked time t251) (blank a h ps) (ofAddress a ms) ≡ shown₁ (walk (retransmission time t251) ps ms)
   first-pass ps ms q =
-      walk-seen (retransmission time t251) (looked time t251) (blank a h) (toMe a) (about a) (HeldBySsi h) resends-own resends-other
+      walk-seen (retransmission time t251) (looked time t251) (blank a h) (toMe a) (ofSsi a) (HeldBySsi h) resends-own resends-other
       ms ps q
 
 -- The second pass: first sendings. An address has the receipts that it holds, and whether one of its messages is under way.
@@ -215,10 +215,10 @@ module _ (a : ℕ) (h : Holders) where
   viewed s = record { receipts = blank a h (s .receipts); blocked = among a (s .blocked) }
 
   abbrev shown₂ : Visit Sending Message Record → Visit OwnSending Message Record
-  shown₂ v = record { state = viewed (v .state); stays = keep (toMe a) (v .stays); out = keep (about a) (v .out) }
+  shown₂ v = record { state = viewed (v .state); stays = keep (toMe a) (v .stays); out = keep (ofSsi a) (v .out) }
 
   abbrev Unseen₂ : Sending → Visit Sending Message Record → Type 0
-  Unseen₂ s v = Unseen firstSending ownSending viewed (toMe a) (about a) (HeldBySsi h) s v
+  Unseen₂ s v = Unseen firstSending ownSending viewed (toMe a) (ofSsi a) (HeldBySsi h) s v
 
   among-own : (m : Message) (bs : List ℕ) → toMe a m ≡ true → true ≡ among a (m .sent .ssi ∷ bs)
   unfolding any
@@ -264,7 +264,7 @@ module _ (a : ℕ) (h : Holders) where
               blocked = among-own m (s .blocked) e i;
             };
         stays = sym (keep-yes (toMe a) (submittedAfter (m .resends) m) [] e) i;
-        out = sym (keep-yes (about a) (acknowledged (m .sent)) [] e) i;
+        out = sym (keep-yes (ofSsi a) (acknowledged (m .sent)) [] e) i;
       }
       in
       let under : Bool = among a (s .blocked) in
@@ -299,7 +299,7 @@ module _ (a : ℕ) (h : Holders) where
               blocked = among-other m (s .blocked) e i;
             };
         stays = keep-no (toMe a) (submittedAfter (m .resends) m) [] e;
-        out = keep-no (about a) (acknowledged (m .sent)) [] e;
+        out = keep-no (ofSsi a) (acknowledged (m .sent)) [] e;
       }))
 
   second-pass :
@@ -307,7 +307,7 @@ module _ (a : ℕ) (h : Holders) where
       → All (HeldBySsi h) ms
       → walk ownSending (viewed s) (ofAddress a ms) ≡ shown₂ (walk firstSending s ms)
   second-pass s ms q =
-      walk-seen firstSending ownSending viewed (toMe a) (about a) (HeldBySsi h) sends-own sends-other ms s q
+      walk-seen firstSending ownSending viewed (toMe a) (ofSsi a) (HeldBySsi h) sends-own sends-other ms s q
 
 -- While one is under way, those that wait go on waiting.
 all-wait :
@@ -393,7 +393,7 @@ module _ (a : ℕ) (h : Holders) (l : Link) (ok : Sound h l) where
       (submits (blank a h (retransmissions l .state)) (ofAddress a (retransmissions l .stays)) (ahead-between h l ok a))
 
   records-own :
-      keep (about a) (retransmissions l .out ++ (firstSendings l .out ++ (map replyTo (l .due) ++ map unacknowledged (l .unacknowledged))))
+      keep (ofSsi a) (retransmissions l .out ++ (firstSendings l .out ++ (map replyTo (l .due) ++ map unacknowledged (l .unacknowledged))))
       ≡ resent (own a h l) .out
       ++ (sentFirst (own a h l) .out
       ++ (map replyTo (keep (dueTo a) (l .due)) ++ map unacknowledged (keep (sentTo a) (l .unacknowledged))))
@@ -403,16 +403,16 @@ module _ (a : ℕ) (h : Holders) (l : Link) (ok : Sound h l) where
       let F = firstSendings l .out in
       let D = map replyTo (l .due) in
       let U = map unacknowledged (l .unacknowledged) in
-      keep-append (about a) R (F ++ (D ++ U))
+      keep-append (ofSsi a) R (F ++ (D ++ U))
       ∙ ap₂ (λ (x y : List Record). x ++ y) (ap (λ (v : Visit (List Place) Message Record). v .out) (sym resent-own))
-      (keep-append (about a) F (D ++ U)
+      (keep-append (ofSsi a) F (D ++ U)
       ∙ ap₂ (λ (x y : List Record). x ++ y) (sent-first-own .out)
-      (keep-append (about a) D U
+      (keep-append (ofSsi a) D U
       ∙ ap₂ (λ (x y : List Record). x ++ y)
-      (keep-map (about a) (dueTo a) replyTo (l .due) (λ d. refl))
-      (keep-map (about a) (sentTo a) unacknowledged (l .unacknowledged) (λ s. refl))))
+      (keep-map (ofSsi a) (dueTo a) replyTo (l .due) (λ d. refl))
+      (keep-map (ofSsi a) (sentTo a) unacknowledged (l .unacknowledged) (λ s. refl))))
 
-  pub tick-end-own : done (own a h (onTickEnd l .state)) (keep (about a) (onTickEnd l .records)) ≡ atTickEnd (own a h l)
+  pub tick-end-own : done (own a h (onTickEnd l .state)) (keep (ofSsi a) (onTickEnd l .records)) ≡ atTickEnd (own a h l)
   unfolding atTickEnd onTickEnd own keep
   tick-end-own =
       λ i.

@@ -1,64 +1,38 @@
 -- "Each accepted request is handed down at most four times with the same bits": what may still be handed down does not grow.
 use Prim.Native.Nat.{ℕ, suc, _+_, _-_, _≤_, _<_}
 use native.Mathlib.Omega.{arith}
-use mathlib.Core.Path.{_≡_, _∙_, refl, sym, ap}
-use mathlib.Core.Bool.{Bool, true, false, cond, not, _&&_, _||_, true≢false}
+use mathlib.Core.Path.{_≡_, _∙_, refl, sym, ap, subst}
+use mathlib.Core.Bool.{Bool, true, false, cond, not, _&&_, true≢false}
 use mathlib.Core.List.{List, [], _∷_, _++_, map}
 use mathlib.Core.Option.{Option, none, some, Option·some-injective, Option·none-ne-some}
-use borrow.Author.Tests.{eqb-true, eqb-false, eq-eqb, ne-eqb, ltb-true}
+use borrow.Author.Tests.{eqb-false, eq-eqb, ne-eqb, ltb-true}
 use lib.Dec.{eqb, ltb}
-use lib.ListN.{length, set, length-append}
-use lib.Seq.{getD-set-same, getD-set-other}
-use Rattle.questions.specs.Outcome.{Outcome, accepted, refused, ask, number}
+use lib.ListN.{length, length-append}
+use Rattle.questions.specs.Outcome.{number}
 use Rattle.tdma_time.specs.declared.TdmaTime.{TdmaTime}
-use Rattle.tx_receipt.specs.Marks as Marks
-use Rattle.tx_receipt.specs.Marks.{Mark}
 use Rattle.llc_pdus.specs.declared.Pdu.{Pdu}
 use Rattle.llc_pdus.specs.declared.Pdu.the-variants.{BlAdata, BlData, BlUdata, BlAck}
 use Rattle.llc_rule.specs.Lists.{among, Found, nothing, first, Visit, walk}
-use Rattle.llc_rule.specs.Calls.{Call, start, tickStart, tickEnd, dataRequest, unitdataRequest, frame, report, release, Request, Frame, parsed}
-use Rattle.llc_rule.specs.Ranges.{steals, wantsFcs, requestInRange, inRange}
+use Rattle.llc_rule.specs.Calls.{Request, Frame}
 use Rattle.llc_rule.specs.Records.{Record, acknowledged, reply, unacknowledged, dataUp, unitdataUp, Sent}
-use Rattle.llc_rule.specs.Received.{Received, received, nsOf, nrOf, upward}
-use Rattle.llc_rule.specs.Messages.{Message, waiting, submittedAfter, doneAt, hasTime, overdue, Due, replyTo, Place, free, taken, placeAt, isFree, pending, taken?, mark, reported, carrierOf, sentOf}
-use Rattle.llc_rule.specs.Done.{Done, done}
-use Rattle.llc_rule.specs.Link.{Link, withReceipts, bitOf, new}
-use Rattle.llc_rule.specs.Step.{dueFor, onAcknowledgedPath, receiptFree, rowFor, acknowledgedPlace, unacknowledgedPlace, dataPdu, withAcknowledged, withUnacknowledged, withStolen, onData, onUnitdata, dueRoom, withDue, awaiting, fits, mayFinish, answeredBy, answered, dueNow, onReceived, onFrame, reportable, onReport, releasable, onRelease, timed, agedBy, retransmission, Sending, firstSending, retransmissions, firstSendings, onTickEnd, isStart, act, called, step}
-use Rattle.llc_rule.specs.Runs.{left, given, run, after}
-use Rattle.llc_rule.specs.Past.{Holders, nobody, holdersAfter}
-use Rattle.llc_rule.specs.Sound.{All, Owned, Sound}
-use Rattle.llc_rule.specs.Sendings.{requestOf, ends, handed, sendings, AtMostFour, HandedDown}
-use Rattle.llc_rule.proofs.SoundCalls.{sound-run}
-use Rattle.llc_rule.proofs.Places.{mark-free}
-use Rattle.llc_rule.proofs.SoundRequests.{receipt-within}
-use Rattle.llc_rule.proofs.Lists.{by-test, by-choice, clash, all-append, all-front, all-back, Split, FoundBy, find-by}
-
--- What holds of all holds of the one that was found and of the others.
-all-found :
-    {A : Type 0} (P : A → Type 0) (p : A → Bool) (l : List A) (x : A) (xs : List A)
-    → Split p l x xs
-    → All P l
-    → P x × All P xs
-all-found P p l x xs z a =
-    let b = all-back P (z .front) (x ∷ z .back) (rw (z .whole) at a) in
-    let c = all-front P (z .front) (x ∷ z .back) (rw (z .whole) at a) in
-    (b .0, rw (z .rest) (all-append P (z .front) (z .back) c (b .1)))
-
--- Places ------------------------------------------------------------------------------------------------------------------
-
-abbrev IsTaken : List Place → ℕ → Type 0
-IsTaken ps i = isFree (placeAt ps i) ≡ false
-
-mark-taken : (k : Mark) (ps : List Place) (j i : ℕ) → IsTaken ps i → IsTaken (mark k j ps) i
-mark-taken k ps j i h = mark-free k j ps i ∙ h
-
--- What is put into a place frees no other.
-set-taken : (ps : List Place) (j i : ℕ) (p : Place) → eqb j i ≡ false → IsTaken ps i → IsTaken (set ps j p) i
-set-taken ps j i p e h = rw (getD-set-other ps j i p free (λ k. eqb-false j i e (sym k))) h
+use Rattle.llc_rule.specs.Received.{nsOf, nrOf, upward}
+use Rattle.llc_rule.specs.Messages.{Message, waiting, submittedAfter, doneAt, hasTime, overdue, Due, replyTo, Place, free, placeAt, isFree, taken?, reported, carrierOf, sentOf}
+use Rattle.llc_rule.specs.Link.{Link, bitOf, new, startedWith}
+use Rattle.llc_rule.specs.Step.{dueFor, receiptFree, dataPdu, withAcknowledged, withUnacknowledged, withDue, awaiting, fits, answeredBy, answered, dueNow, agedBy, retransmission, Sending, firstSending, retransmissions, firstSendings, onTickEnd, step}
+use Rattle.llc_rule.specs.Runs.{left, given, Exchange, exchange, run}
+use Rattle.llc_rule.specs.Past.{About, aboutCall, Holders, nobody, holding, heldAfter, doneTo, holders}
+use Rattle.llc_rule.specs.Sound.{All, Owned, Sound, isNobody}
+use Rattle.llc_rule.specs.Sendings.{taker, requestOf, ends, handed, sendings, AtMostFour, EachAtMostFour}
+use Rattle.llc_rule.proofs.Lists.{by-test, by-choice, either, if-false, clash, all-append, all-front, all-back, Split, FoundBy, find-by}
+use Rattle.llc_rule.proofs.Paths.{Acknowledged, Unacknowledged, Paths, step-law}
+use Rattle.llc_rule.proofs.About.{about-accepted, takes-own}
+use Rattle.llc_rule.proofs.Held.{all-found}
+use Rattle.llc_rule.proofs.SoundLists.{other-place}
+use Rattle.llc_rule.proofs.SoundCalls.{done-accepted, holders-accepted, holders-refused, sound-new, sound-step}
 
 -- Records -----------------------------------------------------------------------------------------------------------------
 
-handed-append : (i : ℕ) (rs qs : List Record) → handed i (rs ++ qs) ≡ handed i rs ++ handed i qs
+pub handed-append : (i : ℕ) (rs qs : List Record) → handed i (rs ++ qs) ≡ handed i rs ++ handed i qs
 unfolding handed
 handed-append i [] qs = refl
 handed-append i (acknowledged s ∷ rs) qs =
@@ -179,15 +153,6 @@ module _ (i : ℕ) (s : Sent) where
       kept-beside (m ∷ []) (f t m .stays) ms (walk f (f t m .state) ms .stays) (f t m .out) (walk f (f t m .state) ms .out)
       (each t m) (kept-walk f each (f t m .state) ms)
 
--- And so its state.
-walk-state :
-    {S A R : Type 0} (P : S → Type 0) (f : S → A → Visit S A R)
-    → ((t : S) (x : A) → P t → P (f t x .state))
-    → (t : S) (xs : List A) → P t → P (walk f t xs .state)
-unfolding walk
-walk-state P f each t [] h = h
-walk-state P f each t (x ∷ xs) h = walk-state P f each (f t x .state) xs (each t x h)
-
 -- Tick end ----------------------------------------------------------------------------------------------------------------
 
 module _ (i : ℕ) (s : Sent) where
@@ -266,88 +231,33 @@ module _ (i : ℕ) (s : Sent) where
       (λ h. kept-stay m)
       (λ h. by-choice (KeptBy m) (among (m .sent .ssi) (t .blocked)) (λ e. kept-stay m) (λ e. kept-first m h))
 
--- Neither pass frees a place.
-aged-taken :
-    (i : ℕ) (time : TdmaTime) (t251 : ℕ) (ps : List Place) (m : Message) (o : Option TdmaTime)
-    → IsTaken ps i
-    → IsTaken (agedBy time t251 ps m o .state) i
-aged-taken i time t251 ps m none h = h
-aged-taken i time t251 ps m (some t) h =
-    by-choice TakenBy (overdue time t251 t)
-    (λ e. by-choice TakenBy (ltb (m .resends) 3)
-    (λ f. mark-taken Marks.reset ps (m .sent .receipt) i h)
-    (λ f. mark-taken Marks.lost ps (m .sent .receipt) i h))
-    (λ e. h)
-  where
-    TakenBy : Visit (List Place) Message Record → Type 0
-    TakenBy v = IsTaken (v .state) i
-
-retransmission-taken :
-    (i : ℕ) (time : TdmaTime) (t251 : ℕ) (ps : List Place) (m : Message)
-    → IsTaken ps i
-    → IsTaken (retransmission time t251 ps m .state) i
-unfolding retransmission
-retransmission-taken i time t251 ps m h = aged-taken i time t251 ps (timed time ps m) (timed time ps m .done) h
-
-firstSending-taken : (i : ℕ) (t : Sending) (m : Message) → IsTaken (t .receipts) i → IsTaken (firstSending t m .state .receipts) i
-unfolding firstSending
-firstSending-taken i t m h =
-    by-choice TakenBy (m .submitted)
-    (λ e. h)
-    (λ e. by-choice TakenBy (among (m .sent .ssi) (t .blocked))
-    (λ f. h)
-    (λ f. mark-taken Marks.reset (t .receipts) (m .sent .receipt) i h))
-  where
-    TakenBy : Visit Sending Message Record → Type 0
-    TakenBy v = IsTaken (v .state .receipts) i
-
--- What a call does to a request that holds receipt i, of which s is handed down.
-record Onward (i : ℕ) (s : Sent) (l : Link) (o : Outcome (Done Link)) : Type 0 where
-  queue : Kept i s (l .acknowledged) (left l o .acknowledged) (given o)
-  place : IsTaken (left l o .receipts) i
-
 replied : (i : ℕ) (l : Link) → handed i (map replyTo (l .due) ++ map unacknowledged (l .unacknowledged)) ≡ []
 unfolding handed
 replied i l =
     handed-append i (map replyTo (l .due)) (map unacknowledged (l .unacknowledged))
     ∙ rw (handed-replies i (l .due), handed-unacknowledged i (l .unacknowledged))
 
-onward-tickEnd : (i : ℕ) (s : Sent) (l : Link) → IsTaken (l .receipts) i → Onward i s l (accepted (onTickEnd l))
+kept-tickEnd : (i : ℕ) (s : Sent) (l : Link) → Kept i s (l .acknowledged) (onTickEnd l .state .acknowledged) (onTickEnd l .records)
 unfolding onTickEnd firstSendings retransmissions
-onward-tickEnd i s l h =
+kept-tickEnd i s l =
     let r = retransmission (l .time) (l .t251) in
     let v = walk r (l .receipts) (l .acknowledged) in
     let t : Sending = record { receipts = v .state; blocked = [] } in
     let w = walk firstSending t (v .stays) in
     let rest = map replyTo (l .due) ++ map unacknowledged (l .unacknowledged) in
-    record {
-      queue =
-          kept-then i s (l .acknowledged) (v .stays) (w .stays) (v .out) (w .out ++ rest)
-          (kept-walk i s r (kept-retransmission i s (l .time) (l .t251)) (l .receipts) (l .acknowledged))
-          (kept-then i s (v .stays) (w .stays) (w .stays) (w .out) rest
-          (kept-walk i s firstSending (kept-firstSending i s) t (v .stays))
-          (kept-same i s (w .stays) rest (replied i l)));
-      place =
-          walk-state (λ (u : Sending). IsTaken (u .receipts) i) firstSending (firstSending-taken i) t (v .stays)
-          (walk-state (λ (ps : List Place). IsTaken ps i) r (retransmission-taken i (l .time) (l .t251))
-          (l .receipts) (l .acknowledged) h);
-    }
+    kept-then i s (l .acknowledged) (v .stays) (w .stays) (v .out) (w .out ++ rest)
+    (kept-walk i s r (kept-retransmission i s (l .time) (l .t251)) (l .receipts) (l .acknowledged))
+    (kept-then i s (v .stays) (w .stays) (w .stays) (w .out) rest
+    (kept-walk i s firstSending (kept-firstSending i s) t (v .stays))
+    (kept-same i s (w .stays) rest (replied i l)))
 
 -- Calls -------------------------------------------------------------------------------------------------------------------
 
--- A free place is another than one that is taken.
-pub free-other : (ps : List Place) (j i : ℕ) → isFree (placeAt ps j) ≡ true → IsTaken ps i → eqb j i ≡ false
-free-other ps j i f h = by-test (eqb j i) (λ e. clash f (rw (eqb-true j i e) h)) (λ e. e)
+-- Two receipts that differ.
+turned : (i j : ℕ) → eqb i j ≡ false → eqb j i ≡ false
+turned i j e = ne-eqb j i (λ k. eqb-false i j e (sym k))
 
-module _ (i : ℕ) (s : Sent) (l : Link) (h : IsTaken (l .receipts) i) where
-  onward-refused : (n : ℕ) → Onward i s l (refused n)
-  unfolding handed
-  onward-refused n = record { queue = kept-same i s (l .acknowledged) [] refl; place = h }
-
-  onward-ask : (n : ℕ) (b : Bool) (o : Outcome (Done Link)) → (b ≡ true → Onward i s l o) → Onward i s l (ask n b o)
-  onward-ask n true o f = f refl
-  onward-ask n false o f = onward-refused n
-
+module _ (i : ℕ) (s : Sent) (l : Link) where
   -- A message of another receipt, put last.
   kept-last : (m : Message) → eqb (m .sent .receipt) i ≡ false → Kept i s (l .acknowledged) (l .acknowledged ++ (m ∷ [])) []
   unfolding handed
@@ -355,66 +265,6 @@ module _ (i : ℕ) (s : Sent) (l : Link) (h : IsTaken (l .receipts) i) where
       kept-silent i s (l .acknowledged) (l .acknowledged ++ (m ∷ [])) [] refl
       (rw (budget-append i (l .acknowledged) (m ∷ []), e) (omega arith))
       (λ a. all-append (HandsDown i s) (l .acknowledged) (m ∷ []) a (λ t. clash t e, tt))
-
-  onward-acknowledged : (r : Request) → eqb (r .receipt) i ≡ false → Onward i s l (accepted (done (withAcknowledged r l) []))
-  unfolding withAcknowledged sentOf
-  onward-acknowledged r e =
-      record {
-        queue = kept-last _ e;
-        place = set-taken (l .receipts) (r .receipt) i (pending true) e h;
-      }
-
-  onward-unacknowledged :
-      (r : Request) (link : ℕ) (p : Pdu) (ds : List Due)
-      → eqb (r .receipt) i ≡ false
-      → Onward i s l (accepted (done (withUnacknowledged r link p ds l) []))
-  unfolding withUnacknowledged handed
-  onward-unacknowledged r link p ds e =
-      record {
-        queue = kept-same i s (l .acknowledged) [] refl;
-        place = set-taken (l .receipts) (r .receipt) i (pending false) e h;
-      }
-
-  onward-stolen :
-      (r : Request) (f : Found Due)
-      → eqb (r .receipt) i ≡ false
-      → Onward i s l (accepted (done (withStolen r l f) []))
-  unfolding withStolen
-  onward-stolen r (first d ds) e = onward-unacknowledged r (r .link) (BlAck (wantsFcs r) (d .nr)) ds e
-  onward-stolen r nothing e = onward-unacknowledged r 0 (BlUdata false) (l .due) e
-
-  onward-data : (r : Request) → Onward i s l (onData r l)
-  unfolding onData
-  onward-data r =
-      onward-ask 6 (receiptFree r l) _ λ f.
-      let e = free-other (l .receipts) (r .receipt) i f h in
-      by-choice (Onward i s l) (onAcknowledgedPath r)
-      (λ a. onward-ask 7 (rowFor r l) _ λ b. onward-ask 8 (acknowledgedPlace l) _ λ c. onward-acknowledged r e)
-      (λ a. onward-ask 8 (unacknowledgedPlace l) _ λ b.
-      by-choice (λ (k : Link). Onward i s l (accepted (done k []))) (steals r)
-      (λ c. onward-stolen r (dueFor r l) e)
-      (λ c. onward-stolen r nothing e))
-
-  onward-unitdata : (r : Request) → Onward i s l (onUnitdata r l)
-  unfolding onUnitdata
-  onward-unitdata r =
-      onward-ask 6 (receiptFree r l) _ λ f.
-      onward-ask 8 (unacknowledgedPlace l) _ λ b.
-      onward-unacknowledged r (r .link) (BlUdata false) (l .due) (free-other (l .receipts) (r .receipt) i f h)
-
-  onward-report : (j how : ℕ) → Onward i s l (onReport j how l)
-  unfolding onReport handed
-  onward-report j how =
-      onward-ask 15 (reportable j l) _ λ b.
-      by-choice (λ (ps : List Place). Onward i s l (accepted (done (withReceipts l ps) []))) (eqb how 1)
-      (λ c. record { queue = kept-same i s (l .acknowledged) [] refl; place = mark-taken Marks.transmitted (l .receipts) j i h })
-      (λ c. record { queue = kept-same i s (l .acknowledged) [] refl; place = mark-taken Marks.discarded (l .receipts) j i h })
-
-  onward-release : (j : ℕ) → eqb j i ≡ false → Onward i s l (onRelease j l)
-  unfolding onRelease handed
-  onward-release j e =
-      onward-ask 16 (releasable j l) _ λ b.
-      record { queue = kept-same i s (l .acknowledged) [] refl; place = set-taken (l .receipts) j i free e h }
 
   -- The queue without a message that was found in it, and with it in front.
   kept-found :
@@ -426,99 +276,116 @@ module _ (i : ℕ) (s : Sent) (l : Link) (h : IsTaken (l .receipts) i) where
       let n = budget-found i p (l .acknowledged) m ms z in
       let f = all-found (HandsDown i s) p (l .acknowledged) m ms z in (
         kept-silent i s (l .acknowledged) ms out e (omega (arith, n)) (λ a. f a .1),
-        kept-silent i s (l .acknowledged) (m ∷ ms) out e (omega (arith, n)) (λ a. (f a .0, f a .1)),
+        kept-silent i s (l .acknowledged) (m ∷ ms) out e (omega (arith, n)) f,
       )
 
-  onward-answeredBy :
+  kept-answeredBy :
       (p : Message → Bool) (nr : Bool) (g : Found Message) (out : List Record)
       → FoundBy p (l .acknowledged) g
       → handed i out ≡ []
-      → Onward i s l (accepted (done (answeredBy nr g l) out))
+      → Kept i s (l .acknowledged) (answeredBy nr g l .acknowledged) out
   unfolding answeredBy
-  onward-answeredBy p nr nothing out z e = record { queue = kept-same i s (l .acknowledged) out e; place = h }
-  onward-answeredBy p nr (first m ms) out z e =
-      by-choice (λ (k : Link). Onward i s l (accepted (done k out))) (fits nr m)
-      (λ b. record { queue = kept-found p m ms out z e .0; place = mark-taken Marks.acknowledged (l .receipts) (m .sent .receipt) i h })
-      (λ b. record { queue = kept-found p m ms out z e .1; place = h })
+  kept-answeredBy p nr nothing out z e = kept-same i s (l .acknowledged) out e
+  kept-answeredBy p nr (first m ms) out z e =
+      either (λ (k : Link). Kept i s (l .acknowledged) (k .acknowledged) out) (fits nr m)
+      (kept-found p m ms out z e .0)
+      (kept-found p m ms out z e .1)
 
-  onward-answered :
+  kept-answered :
       (f : Frame) (o : Option Bool) (out : List Record)
       → handed i out ≡ []
-      → Onward i s l (accepted (done (answered f o l) out))
+      → Kept i s (l .acknowledged) (answered f o l .acknowledged) out
   unfolding awaiting
-  onward-answered f none out e = record { queue = kept-same i s (l .acknowledged) out e; place = h }
-  onward-answered f (some nr) out e = onward-answeredBy _ nr (awaiting f l) out (find-by _ (l .acknowledged)) e
+  kept-answered f none out e = kept-same i s (l .acknowledged) out e
+  kept-answered f (some nr) out e = kept-answeredBy _ nr (awaiting f l) out (find-by _ (l .acknowledged)) e
 
-module _ (i : ℕ) (s : Sent) (l : Link) (h : IsTaken (l .receipts) i) where
-  onward-received : (f : Frame) (o : Outcome Received) → Onward i s l (onReceived f o l)
-  unfolding onReceived
-  onward-received f (refused n) = onward-refused i s l h n
-  onward-received f (accepted r) =
-      onward-ask i s l h 13 (dueRoom (nsOf (r .header)) l) _ λ b.
-      onward-ask i s l h 14 (mayFinish f (nrOf (r .header)) l) _ λ c.
-      let l′ = dueNow l (withDue f (nsOf (r .header)) l) in
-      let e = handed-upward i f (r .header) (r .sdu) in
-      let k = onward-answered i s l′ h f (nrOf (r .header)) (upward f (r .header) (r .sdu)) e in
-      record { queue = k .queue; place = k .place }
+-- Where receipt i is taken, no request that is accepted takes it.
+module _ (i : ℕ) (s : Sent) (l : Link) (h : isFree (placeAt (l .receipts) i) ≡ false) where
+  kept-paths : Paths l (λ c k rs. Kept i s (l .acknowledged) (k .acknowledged) rs)
+  unfolding startedWith withAcknowledged withUnacknowledged sentOf handed
+  kept-paths =
+      record {
+        start = λ carrier t251. kept-silent i s (l .acknowledged) [] [] refl (omega arith) (λ a. tt);
+        tickStart = λ time. kept-same i s (l .acknowledged) [] refl;
+        tickEnd = kept-tickEnd i s l;
+        acknowledged =
+            λ r a. kept-last i s l _ (turned i (r .receipt) (other-place (l .receipts) (r .receipt) i (a .free) h));
+        unacknowledged = λ v r link p used a. kept-same i s (l .acknowledged) [] refl;
+        heard =
+            λ f r a.
+            kept-answered i s (dueNow l (withDue f (nsOf (r .header)) l)) f (nrOf (r .header)) (upward f (r .header) (r .sdu))
+            (handed-upward i f (r .header) (r .sdu));
+        reported = λ j how a. kept-same i s (l .acknowledged) [] refl;
+        released = λ j a. kept-same i s (l .acknowledged) [] refl;
+      }
 
-  -- Each call that does not end the holding.
-  onward-act : (c : Call) → ends i (accepted c) ≡ false → Onward i s l (act c l)
-  unfolding act onFrame handed
-  onward-act (start carrier t251) e = absurd (true≢false e)
-  onward-act (tickStart time) e = record { queue = kept-same i s (l .acknowledged) [] refl; place = h }
-  onward-act tickEnd e = onward-tickEnd i s l h
-  onward-act (dataRequest r) e = onward-data i s l h r
-  onward-act (unitdataRequest r) e = onward-unitdata i s l h r
-  onward-act (frame f) e = onward-received f (received (f .pdu))
-  onward-act (report j how) e = onward-report i s l h j how
-  onward-act (release j) e = onward-release i s l h j e
+  kept-step : (c : List ℕ) → Kept i s (l .acknowledged) (left l (step l c) .acknowledged) (given (step l c))
+  unfolding handed
+  kept-step c =
+      step-law l _ kept-paths c (λ o. Kept i s (l .acknowledged) (left l o .acknowledged) (given o))
+      (λ n k. kept-same i s (l .acknowledged) [] refl)
+      (λ d o e p. p)
 
-  onward-called : (o : Outcome Call) → ends i o ≡ false → Onward i s l (called l o)
-  unfolding called
-  onward-called (refused n) e = onward-refused i s l h n
-  onward-called (accepted c) e =
-      onward-ask i s l h 4 (isStart c || l .started) _ λ a. onward-ask i s l h 5 (inRange c) _ λ b. onward-act c e
+-- Holding -----------------------------------------------------------------------------------------------------------------
 
-  -- And any that is refused.
-  onward-number : (o : Outcome (Done Link)) → eqb (number o) 0 ≡ false → Onward i s l o
-  onward-number (accepted d) e = absurd (true≢false e)
-  onward-number (refused n) e = onward-refused i s l h n
+-- An address that holds receipt i holds it until an accepted call ends that.
+module _ (h : Holders) (l : Link) (sound : Sound h l) (i a : ℕ) (mine : h i ≡ some a) where
+  taken-place : isFree (placeAt (l .receipts) i) ≡ false
+  taken-place = sound .free i ∙ ap isNobody mine
 
-  onward-step : (c : List ℕ) → eqb (number (step l c)) 0 && ends i (parsed c) ≡ false → Onward i s l (step l c)
-  unfolding step
-  onward-step c e =
-      by-test (ends i (parsed c))
-      (λ f. onward-number (step l c) (either (eqb (number (step l c)) 0) f e))
-      (λ f. onward-called (parsed c) f)
-    where
-      either : (b : Bool) {d : Bool} → d ≡ true → b && d ≡ false → b ≡ false
-      either true t u = clash t u
-      either false t u = refl
+  holds-on : (j : ℕ) (who : Option ℕ) → eqb i j ≡ false → holding j who h i ≡ some a
+  holds-on j who e = if-false who (h i) e ∙ mine
+
+  -- A request takes a free receipt.
+  holds-request : (r : Request) → receiptFree r l ≡ true → holding (r .receipt) (some (r .ssi)) h i ≡ some a
+  holds-request r f = holds-on (r .receipt) (some (r .ssi)) (other-place (l .receipts) (r .receipt) i f taken-place)
+
+  holds-paths : Paths l (λ c k rs. ends i (aboutCall c .toHolding) ≡ false → heldAfter (aboutCall c .toHolding) h i ≡ some a)
+  holds-paths =
+      record {
+        start = λ carrier t251 e. absurd (true≢false e);
+        tickStart = λ time e. mine;
+        tickEnd = λ e. mine;
+        acknowledged = λ r q e. holds-request r (q .free);
+        unacknowledged = λ v r link p used q e. holds-request r (q .free);
+        heard = λ f r q e. mine;
+        reported = λ j how a e. mine;
+        released = λ j a e. holds-on j none (turned j i e);
+      }
+
+  pub holds-step : (c : List ℕ) → ends i (doneTo (exchange c (step l c))) ≡ false → holders (exchange c (step l c)) h i ≡ some a
+  holds-step c =
+      step-law l _ holds-paths c (λ o. ends i (doneTo (exchange c o)) ≡ false → holders (exchange c o) h i ≡ some a)
+      (λ n k e. ap (λ (x : Holders). x i) (holders-refused h c n [] k) ∙ mine)
+      (λ d o e p t.
+      ap (λ (x : Holders). x i) (holders-accepted h c d (o .records) e)
+      ∙ p (sym (ap (ends i) (done-accepted c d (o .records) e)) ∙ t))
 
 -- What is handed down with receipt i is s, and it is not more than n times.
 record Few (n : ℕ) (s : Sent) (ss : List Sent) : Type 0 where
   few : length ss ≤ n
   same : All (λ (t : Sent). t ≡ s) ss
 
--- While a request holds receipt i, no more is handed down than its messages have left.
+-- While an address holds receipt i, no more is handed down than its messages have left.
 few-sendings :
-    (i : ℕ) (s : Sent) (l : Link) (cs : List (List ℕ))
-    → IsTaken (l .receipts) i
+    (i a : ℕ) (s : Sent) (h : Holders) (l : Link) (cs : List (List ℕ))
+    → Sound h l
+    → h i ≡ some a
     → All (HandsDown i s) (l .acknowledged)
     → Few (budget i (l .acknowledged)) s (sendings i (run l cs))
 unfolding sendings run
-few-sendings i s l [] h a = record { few = omega arith; same = tt }
-few-sendings i s l (c ∷ cs) h a =
-    by-choice (Few (budget i (l .acknowledged)) s) (eqb (number (step l c)) 0 && ends i (parsed c))
+few-sendings i a s h l [] sound mine hands = record { few = omega arith; same = tt }
+few-sendings i a s h l (c ∷ cs) sound mine hands =
+    by-choice (Few (budget i (l .acknowledged)) s) (ends i (doneTo (exchange c (step l c))))
     (λ e. record { few = omega arith; same = tt })
     (λ e.
-    let o = onward-step i s l h c e in
-    let k = left l (step l c) in
-    let ih = few-sendings i s k cs (o .place) (o .queue .stays a) in
+    let k = kept-step i s l (taken-place h l sound i a mine) c in
+    let l′ = left l (step l c) in
+    let ih = few-sendings i a s _ l′ cs (sound-step h l c sound) (holds-step h l sound i a mine c e) (k .stays hands) in
     record {
-      few = rw (length-append (handed i (given (step l c))) (sendings i (run k cs))) (omega (arith, o .queue .spent, ih .few));
+      few = rw (length-append (handed i (given (step l c))) (sendings i (run l′ cs))) (omega (arith, k .spent, ih .few));
       same =
-          all-append (λ (t : Sent). t ≡ s) (handed i (given (step l c))) (sendings i (run k cs)) (o .queue .same a) (ih .same);
+          all-append (λ (t : Sent). t ≡ s) (handed i (given (step l c))) (sendings i (run l′ cs)) (k .same hands) (ih .same);
     })
 
 -- The request -------------------------------------------------------------------------------------------------------------
@@ -528,7 +395,6 @@ record Begun (r : Request) (l : Link) : Type 0 where
   carrier : ℕ
   link : ℕ
   header : Pdu
-  place : IsTaken (l .receipts) (r .receipt)
   hands : All (HandsDown (r .receipt) (sentOf r carrier link header)) (l .acknowledged)
   four : budget (r .receipt) (l .acknowledged) ≤ 4
 
@@ -546,37 +412,21 @@ clear :
 clear h ps i s [] a f = record { hands = tt; spent = refl }
 clear h ps i s (m ∷ ms) a f =
     let c = clear h ps i s ms (a .1) f in
-    let e = eqb-false i (m .sent .receipt) (free-other ps i (m .sent .receipt) f (a .0 .taken)) in
-    let d = ne-eqb (m .sent .receipt) i (λ k. e (sym k)) in
+    let d = other-place ps i (m .sent .receipt) f (a .0 .taken) in
     record { hands = (λ t. clash t d, c .hands); spent = rw d (omega (arith, c .spent)) }
 
--- An outcome that is accepted passed its question.
-begun-ask :
-    (r : Request) (l : Link) (n : ℕ) (b : Bool) (o : Outcome (Done Link))
-    → (b ≡ true → number o ≡ 0 → Begun r (left l o))
-    → number (ask (suc n) b o) ≡ 0
-    → Begun r (left l (ask (suc n) b o))
-begun-ask r l n true o f e = f refl e
-begun-ask r l n false o f e = absurd (omega (arith, e))
-
-module _ (h : Holders) (l : Link) (sound : Sound h l) (r : Request) (inside : requestInRange r ≡ true) where
-  -- Its place is one of the 128, so it is taken.
-  took : (p : Place) → isFree p ≡ false → IsTaken (set (l .receipts) (r .receipt) p) (r .receipt)
-  took p e =
-      rw (getD-set-same (l .receipts) (r .receipt) p free (omega (arith, sound .limits .receipts, receipt-within r inside))) e
-
+module _ (h : Holders) (l : Link) (sound : Sound h l) where
   -- Before it no message had the receipt: on the acknowledged path it is now that of the new one, else of none.
-  begun-acknowledged : receiptFree r l ≡ true → Begun r (withAcknowledged r l)
+  begun-acknowledged : (r : Request) → Acknowledged r l → Begun r (withAcknowledged r l)
   unfolding withAcknowledged sentOf
-  begun-acknowledged f =
+  begun-acknowledged r a =
       let ns = bitOf (r .ssi) (l .rows) in
       let s = sentOf r (carrierOf (l .carrier) r) 0 (dataPdu r ns (dueFor r l)) in
-      let c = clear h (l .receipts) (r .receipt) s (l .acknowledged) (sound .owned) f in
+      let c = clear h (l .receipts) (r .receipt) s (l .acknowledged) (sound .owned) (a .free) in
       record {
         carrier = carrierOf (l .carrier) r;
         link = 0;
         header = dataPdu r ns (dueFor r l);
-        place = took (pending true) refl;
         hands = all-append (HandsDown (r .receipt) s) (l .acknowledged) (waiting s ns ∷ []) (c .hands) (λ t. refl, tt);
         four =
             rw (budget-append (r .receipt) (l .acknowledged) (waiting s ns ∷ []), eq-eqb (r .receipt) (r .receipt) refl)
@@ -584,63 +434,55 @@ module _ (h : Holders) (l : Link) (sound : Sound h l) (r : Request) (inside : re
       }
 
   begun-unacknowledged :
-      (link : ℕ) (p : Pdu) (ds : List Due)
-      → receiptFree r l ≡ true
+      (r : Request) (link : ℕ) (p : Pdu) (used : Found Due) (ds : List Due)
+      → Unacknowledged r link used l
       → Begun r (withUnacknowledged r link p ds l)
   unfolding withUnacknowledged
-  begun-unacknowledged link p ds f =
+  begun-unacknowledged r link p used ds a =
       let s = sentOf r (carrierOf (l .carrier) r) link p in
-      let c = clear h (l .receipts) (r .receipt) s (l .acknowledged) (sound .owned) f in
-      record { carrier = carrierOf (l .carrier) r; link = link; header = p; place = took (pending false) refl; hands = c .hands; four = omega (arith, c .spent) }
-
-  begun-stolen : (g : Found Due) → receiptFree r l ≡ true → Begun r (withStolen r l g)
-  unfolding withStolen
-  begun-stolen (first d ds) f = begun-unacknowledged (r .link) (BlAck (wantsFcs r) (d .nr)) ds f
-  begun-stolen nothing f = begun-unacknowledged 0 (BlUdata false) (l .due) f
-
-  begun-data : number (onData r l) ≡ 0 → Begun r (left l (onData r l))
-  unfolding onData
-  begun-data =
-      begun-ask r l 5 (receiptFree r l) _ λ f.
-      by-choice (λ (o : Outcome (Done Link)). number o ≡ 0 → Begun r (left l o)) (onAcknowledgedPath r)
-      (λ a. begun-ask r l 6 (rowFor r l) _ λ b.
-      begun-ask r l 7 (acknowledgedPlace l) _ λ c e. begun-acknowledged f)
-      (λ a. begun-ask r l 7 (unacknowledgedPlace l) _ λ b e.
-      by-choice (Begun r) (steals r) (λ c. begun-stolen (dueFor r l) f) (λ c. begun-stolen nothing f))
-
-  begun-unitdata : number (onUnitdata r l) ≡ 0 → Begun r (left l (onUnitdata r l))
-  unfolding onUnitdata
-  begun-unitdata =
-      begun-ask r l 5 (receiptFree r l) _ λ f.
-      begun-ask r l 7 (unacknowledgedPlace l) _ λ b e. begun-unacknowledged (r .link) (BlUdata false) (l .due) f
+      let c = clear h (l .receipts) (r .receipt) s (l .acknowledged) (sound .owned) (a .free) in
+      record {
+        carrier = carrierOf (l .carrier) r;
+        link = link;
+        header = p;
+        hands = c .hands;
+        four = omega (arith, c .spent);
+      }
 
 module _ (h : Holders) (l : Link) (sound : Sound h l) (r : Request) where
-  begun-act : (c : Call) → inRange c ≡ true → number (act c l) ≡ 0 → requestOf (accepted c) ≡ some r → Begun r (left l (act c l))
-  unfolding act inRange
-  begun-act (start carrier t251) a e t = absurd (Option·none-ne-some r t)
-  begun-act (tickStart time) a e t = absurd (Option·none-ne-some r t)
-  begun-act tickEnd a e t = absurd (Option·none-ne-some r t)
-  begun-act (dataRequest q) a e t = rw (← Option·some-injective q r t) (begun-data h l sound q a e)
-  begun-act (unitdataRequest q) a e t = rw (← Option·some-injective q r t) (begun-unitdata h l sound q a e)
-  begun-act (frame f) a e t = absurd (Option·none-ne-some r t)
-  begun-act (report j how) a e t = absurd (Option·none-ne-some r t)
-  begun-act (release j) a e t = absurd (Option·none-ne-some r t)
+  begun-paths : Paths l (λ c k rs. taker (aboutCall c .toHolding) ≡ some r → Begun r k)
+  begun-paths =
+      record {
+        start = λ carrier t251 t. absurd (Option·none-ne-some r t);
+        tickStart = λ time t. absurd (Option·none-ne-some r t);
+        tickEnd = λ t. absurd (Option·none-ne-some r t);
+        acknowledged = λ q a t. rw (← Option·some-injective q r t) (begun-acknowledged h l sound q a);
+        unacknowledged =
+            λ v q link p used a t. rw (← Option·some-injective q r t) (begun-unacknowledged h l sound q link p used _ a);
+        heard = λ f q a t. absurd (Option·none-ne-some r t);
+        reported = λ i how a t. absurd (Option·none-ne-some r t);
+        released = λ i a t. absurd (Option·none-ne-some r t);
+      }
 
-  begun-called : (o : Outcome Call) → number (called l o) ≡ 0 → requestOf o ≡ some r → Begun r (left l (called l o))
-  unfolding called
-  begun-called (refused n) e t = absurd (Option·none-ne-some r t)
-  begun-called (accepted c) e t =
-      begun-ask r l 3 (isStart c || l .started) _
-      (λ a. begun-ask r l 4 (inRange c) _ λ b f. begun-act c b f t)
+  begun-step : (c : List ℕ) → number (step l c) ≡ 0 → requestOf c ≡ some r → Begun r (left l (step l c))
+  begun-step c e t =
+      step-law l _ begun-paths c (λ o. number o ≡ 0 → Begun r (left l o))
+      (λ n k z. absurd (omega (arith, z, k .low)))
+      (λ d o p b z. b (sym (ap (λ (x : About). taker (x .toHolding)) (about-accepted c d p)) ∙ t))
       e
 
-  begun-step : (c : List ℕ) → number (step l c) ≡ 0 → requestOf (parsed c) ≡ some r → Begun r (left l (step l c))
-  unfolding step
-  begun-step c e t = begun-called (parsed c) e t
-
-at-most-four : (r : Request) (l : Link) (cs : List (List ℕ)) → Begun r l → AtMostFour r (sendings (r .receipt) (run l cs))
-at-most-four r l cs b =
-    let k = few-sendings (r .receipt) (sentOf r (b .carrier) (b .link) (b .header)) l cs (b .place) (b .hands) in
+-- A request that a sound link accepts is handed down at most four times, with the same bits.
+pub four-after :
+    (h : Holders) (l : Link) (c : List ℕ) (r : Request) (later : List (List ℕ))
+    → Sound h l
+    → number (step l c) ≡ 0
+    → requestOf c ≡ some r
+    → AtMostFour r (sendings (r .receipt) (run (left l (step l c)) later))
+four-after h l c r later sound e t =
+    let b = begun-step h l sound r c e t in
+    let k =
+    few-sendings (r .receipt) (r .ssi) (sentOf r (b .carrier) (b .link) (b .header)) _ (left l (step l c)) later
+    (sound-step h l c sound) (takes-own (exchange c (step l c)) h r e t) (b .hands) in
     record {
       few = omega (arith, k .few, b .four);
       carrier = b .carrier;
@@ -649,20 +491,28 @@ at-most-four r l cs b =
       same = k .same;
     }
 
--- A request that a sound link accepts is handed down at most four times, with the same bits.
-pub four-after :
-    (h : Holders) (l : Link) (c : List ℕ) (r : Request) (later : List (List ℕ))
-    → Sound h l
-    → number (step l c) ≡ 0
-    → requestOf (parsed c) ≡ some r
-    → AtMostFour r (sendings (r .receipt) (run (left l (step l c)) later))
-four-after h l c r later sound e t = at-most-four r (left l (step l c)) later (begun-step h l sound r c e t)
+-- Runs --------------------------------------------------------------------------------------------------------------------
 
--- Each accepted request is.
-pub handed-down : HandedDown
-handed-down =
-    record {
-      each =
-          λ before c r later.
-          four-after (holdersAfter nobody (run new before)) (after new before) c r later (sound-run before);
-    }
+-- Of some exchanges the first, if it is a request that is accepted, is handed down at most four times; and so of those behind.
+abbrev pub FourEach : List Exchange → Type 0
+FourEach [] = Unit {0}
+FourEach (e ∷ es) =
+    ((r : Request) → e .number ≡ 0 → requestOf (e .call) ≡ some r → AtMostFour r (sendings (r .receipt) es)) × FourEach es
+
+four-behind : (before es : List Exchange) → FourEach (before ++ es) → FourEach es
+four-behind [] es f = f
+four-behind (b ∷ before) es f = four-behind before es (f .1)
+
+pub four-each : (es : List Exchange) → FourEach es → EachAtMostFour es
+four-each es f =
+    record { each = λ before e later r q. four-behind before (e ∷ later) (subst FourEach q f) .0 r }
+
+four-from : (h : Holders) (l : Link) (cs : List (List ℕ)) → Sound h l → FourEach (run l cs)
+unfolding run
+four-from h l [] sound = tt
+four-from h l (c ∷ cs) sound =
+    (λ r. four-after h l c r cs sound, four-from _ (left l (step l c)) cs (sound-step h l c sound))
+
+-- Each accepted request of a run is.
+pub four-run : (cs : List (List ℕ)) → EachAtMostFour (run new cs)
+four-run cs = four-each (run new cs) (four-from nobody new cs sound-new)

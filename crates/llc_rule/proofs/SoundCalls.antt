@@ -1,38 +1,34 @@
 -- The invariant is kept by every call, and so holds after every run from the new link.
 use Prim.Native.Nat.{ℕ, zero, suc, _<_}
 use native.Mathlib.Omega.{arith}
-use mathlib.Core.Path.{_≡_, _∙_, refl, sym}
-use mathlib.Core.Bool.{Bool, true, false, cond, not, _&&_, _||_, and-true}
+use mathlib.Core.Path.{_≡_, _∙_, refl, sym, ap, subst}
+use mathlib.Core.Bool.{Bool, false, not, _&&_, and-true}
 use mathlib.Core.List.{List, [], _∷_}
 use mathlib.Core.Option.{none}
-use borrow.Author.Tests.{ltb-true, not-true}
-use lib.Dec.{eqb, leb}
-use lib.ListN.{length, set, drop, replicate, length-set, length-replicate}
-use Rattle.questions.specs.Outcome.{Outcome, accepted, refused, ask, number}
-use Rattle.questions.proofs.Asked.{accepted-passed}
+use borrow.Author.Tests.{ne-eqb, not-true}
+use lib.Dec.{eqb}
+use lib.ListN.{set, replicate, length-set, length-replicate}
+use Rattle.questions.specs.Outcome.{accepted}
 use Rattle.tdma_time.specs.declared.TdmaTime.{TdmaTime}
 use Rattle.tx_receipt.specs.States.{is, final}
-use Rattle.tx_receipt.specs.Marks as Marks
 use Rattle.tx_receipt.specs.Marks.{Mark}
 use Rattle.tx_receipt.specs.declared.TxState.the-variants.{Pending}
-use Rattle.llc_pdus.specs.Headers.{Reading, reading, hasFcs, one, kindAt, lengthOf}
 use Rattle.llc_rule.specs.Lists.{keep, any}
-use Rattle.llc_rule.specs.Calls.{Call, start, tickStart, tickEnd, dataRequest, unitdataRequest, frame, report, release, Request, Frame, parsed}
-use Rattle.llc_rule.specs.Ranges.{inRange}
-use Rattle.llc_rule.specs.Received.{Received, checks, checked, received, nsOf, nrOf}
-use Rattle.llc_rule.specs.Messages.{Message, free, placeAt, taken?, mark, noReceipts}
-use Rattle.llc_rule.specs.Done.{Done}
+use Rattle.llc_rule.specs.Calls.{Call, parsed}
+use Rattle.llc_rule.specs.Records.{Record}
+use Rattle.llc_rule.specs.Messages.{Message, free, placeAt, taken?, mark, markOf, noReceipts}
 use Rattle.llc_rule.specs.Link.{Link, new, startedWith, withTime, withReceipts}
-use Rattle.llc_rule.specs.Step.{receiptFree, rowFor, acknowledgedPlace, unacknowledgedPlace, onAcknowledgedPath, onData, onUnitdata, dueRoom, mayFinish, onReceived, onFrame, held, waits, reportable, releasable, onReport, onRelease, onTickEnd, isStart, act, called, step}
+use Rattle.llc_rule.specs.Step.{held, waits, step}
 use Rattle.llc_rule.specs.Runs.{left, exchange, run, after}
-use Rattle.llc_rule.specs.Past.{Holders, nobody, holding, heldAfter, heldAfterCall, holders, holdersAfter}
+use Rattle.llc_rule.specs.Past.{Holding, stays, aboutCall, about, Holders, nobody, holding, heldAfter, doneTo, holders, History, nothingYet, andThen, history, holdersAfter}
 use Rattle.llc_rule.specs.Sound.{oneAhead, Sound}
 use Rattle.llc_rule.proofs.SoundTickEnd.{sound-tick-end}
-use Rattle.llc_rule.proofs.Lists.{by-test, both, neither, all-map}
-use Rattle.llc_rule.proofs.SoundRequests.{sound-data, sound-unitdata}
-use Rattle.llc_rule.proofs.SoundFrames.{sound-frame}
+use Rattle.llc_rule.proofs.Lists.{both, neither, all-map}
+use Rattle.llc_rule.proofs.Paths.{Number, Paths, step-law}
+use Rattle.llc_rule.proofs.SoundRequests.{sound-with-acknowledged, sound-with-unacknowledged}
+use Rattle.llc_rule.proofs.SoundFrames.{sound-heard}
 use Rattle.llc_rule.proofs.Places.{mark-free}
-use Rattle.llc_rule.proofs.SoundLists.{all-but, owned-marked, owned-other, free-written, pending-other, waiting-other, waiting-marked, sound-done}
+use Rattle.llc_rule.proofs.SoundLists.{all-but, owned-marked, owned-other, free-written, pending-other, waiting-other, waiting-marked}
 
 -- Empty links -------------------------------------------------------------------------------------------------------------
 
@@ -114,19 +110,6 @@ sound-marked h l t i e s =
       ahead = s .ahead;
     }
 
-pub sound-report :
-    (h : Holders) (l : Link) (i how : ℕ)
-    → Sound h l
-    → (d : Done Link)
-    → onReport i how l ≡ accepted d
-    → Sound h (d .state)
-unfolding onReport
-sound-report h l i how s d e =
-    let a = accepted-passed 15 (reportable i l) (sym e) in
-    let w = not-true (waits i l) (both {x = taken? (is Pending) (placeAt (l .receipts) i)} (a .0) .1) in
-    sound-done h _ d (a .1)
-    (by-test (eqb how 1) (λ q. rw q (sound-marked h l Marks.transmitted i w s)) (λ q. rw q (sound-marked h l Marks.discarded i w s)))
-
 -- A place freed that no message needs.
 sound-freed :
     (h : Holders) (l : Link) (i : ℕ)
@@ -153,146 +136,77 @@ sound-freed h l i b e s =
       ahead = s .ahead;
     }
 
-pub sound-release :
-    (h : Holders) (l : Link) (i : ℕ)
-    → i < 128
-    → Sound h l
-    → (d : Done Link)
-    → onRelease i l ≡ accepted d
-    → Sound (holding i none h) (d .state)
-unfolding onRelease
-sound-release h l i b s d e =
-    let a = accepted-passed 16 (releasable i l) (sym e) in
-    let w = not-true (held i l) (both {x = taken? final (placeAt (l .receipts) i)} (a .0) .1) in
-    sound-done _ _ d (a .1) (sound-freed h l i b w s)
-
 -- A call ------------------------------------------------------------------------------------------------------------------
 
-pub sound-act :
-    (h : Holders) (l : Link) (c : Call)
-    → inRange c ≡ true
-    → Sound h l
-    → (d : Done Link)
-    → act c l ≡ accepted d
-    → Sound (heldAfter c h) (d .state)
-unfolding act inRange
-sound-act h l (start carrier t251) r s d e = sound-done _ _ d (sym e) (sound-start carrier t251)
-sound-act h l (tickStart time) r s d e = sound-done _ _ d (sym e) (sound-tick-start h l time s)
-sound-act h l tickEnd r s d e = sound-done _ (onTickEnd l .state) {rs = onTickEnd l .records} d (sym e) (sound-tick-end h l s)
-sound-act h l (dataRequest q) r s d e = sound-data h l q r s d e
-sound-act h l (unitdataRequest q) r s d e = sound-unitdata h l q r s d e
-sound-act h l (frame f) r s d e = sound-frame h l f s d e
-sound-act h l (report i how) r s d e = sound-report h l i how s d e
-sound-act h l (release i) r s d e = sound-release h l i (ltb-true i 128 r) s d e
+sound-paths : (h : Holders) (l : Link) → Sound h l → Paths l (λ c k rs. Sound (heldAfter (aboutCall c .toHolding) h) k)
+sound-paths h l s =
+    record {
+      start = sound-start;
+      tickStart = λ time. sound-tick-start h l time s;
+      tickEnd = sound-tick-end h l s;
+      acknowledged = λ r a. sound-with-acknowledged h l r a s;
+      unacknowledged = λ v r link p used a. sound-with-unacknowledged h l r link p used a s;
+      heard = λ f r a. sound-heard h l f r a s;
+      reported =
+          λ i how a.
+          sound-marked h l (markOf how) i
+          (not-true (waits i l) (both {x = taken? (is Pending) (placeAt (l .receipts) i)} (a .may) .1))
+          s;
+      released =
+          λ i a.
+          sound-freed h l i (a .receipt)
+          (not-true (held i l) (both {x = taken? final (placeAt (l .receipts) i)} (a .may) .1))
+          s;
+    }
 
--- The number of a call that is refused is not 0.
-abbrev Numbered : {A : Type 0} → Outcome A → Type 0
-Numbered (accepted a) = Unit {0}
-Numbered (refused n) = eqb n 0 ≡ false
+-- A refused call has another number than 0.
+pub numbered : (n : ℕ) → Number n → eqb n 0 ≡ false
+numbered n k = ne-eqb n 0 (λ e. omega (arith, e, k .low))
 
-numbered-ask : {A : Type 0} (n : ℕ) (b : Bool) (o : Outcome A) → eqb n 0 ≡ false → Numbered o → Numbered (ask n b o)
-numbered-ask n true o e k = k
-numbered-ask n false o e k = e
+-- An accepted call changes the holders as it says, and a refused one does not.
+pub done-accepted : (bytes : List ℕ) (c : Call) (rs : List Record) → parsed bytes ≡ accepted c → doneTo (record { call = bytes; number = 0; records = rs }) ≡ aboutCall c .toHolding
+unfolding doneTo about
+done-accepted bytes c rs e = rw e
 
-numbered-data : (r : Request) (l : Link) → Numbered (onData r l)
-unfolding onData
-numbered-data r l =
-    numbered-ask 6 (receiptFree r l) _ refl
-    (by-test (onAcknowledgedPath r)
-    (λ e. rw e (numbered-ask 7 (rowFor r l) _ refl (numbered-ask 8 (acknowledgedPlace l) _ refl tt)))
-    (λ e. rw e (numbered-ask 8 (unacknowledgedPlace l) _ refl tt)))
+pub done-refused : (bytes : List ℕ) (n : ℕ) (rs : List Record) → Number n → doneTo (record { call = bytes; number = n; records = rs }) ≡ stays
+unfolding doneTo
+done-refused bytes n rs k = rw (numbered n k)
 
-numbered-unitdata : (r : Request) (l : Link) → Numbered (onUnitdata r l)
-unfolding onUnitdata
-numbered-unitdata r l = numbered-ask 6 (receiptFree r l) _ refl (numbered-ask 8 (unacknowledgedPlace l) _ refl tt)
+pub holders-refused : (h : Holders) (bytes : List ℕ) (n : ℕ) (rs : List Record) → Number n → holders (record { call = bytes; number = n; records = rs }) h ≡ h
+unfolding holders
+holders-refused h bytes n rs k = ap (λ (x : Holding). heldAfter x h) (done-refused bytes n rs k)
 
-numbered-reading : (b : List ℕ) → Numbered (reading b)
-unfolding reading
-numbered-reading b =
-    numbered-ask 9 (leb 4 (length b)) _ refl
-    (numbered-ask 10 (not (one b 0)) _ refl (numbered-ask 11 (leb (lengthOf (kindAt b)) (length b)) _ refl tt))
-
-numbered-checked : (b : List ℕ) (o : Outcome Reading) → Numbered o → Numbered (checked b o)
-unfolding checked
-numbered-checked b (refused n) k = k
-numbered-checked b (accepted r) k = numbered-ask 12 (not (hasFcs (r .pdu)) || checks (drop (r .size) b)) _ refl tt
-
-numbered-received : (f : Frame) (o : Outcome Received) (l : Link) → Numbered o → Numbered (onReceived f o l)
-unfolding onReceived
-numbered-received f (refused n) l k = k
-numbered-received f (accepted r) l k =
-    numbered-ask 13 (dueRoom (nsOf (r .header)) l) _ refl (numbered-ask 14 (mayFinish f (nrOf (r .header)) l) _ refl tt)
-
-numbered-frame : (f : Frame) (l : Link) → Numbered (onFrame f l)
-unfolding onFrame received
-numbered-frame f l =
-    numbered-received f (received (f .pdu)) l (numbered-checked (f .pdu) (reading (f .pdu)) (numbered-reading (f .pdu)))
-
-numbered-act : (c : Call) (l : Link) → Numbered (act c l)
-unfolding act onReport onRelease
-numbered-act (start carrier t251) l = tt
-numbered-act (tickStart time) l = tt
-numbered-act tickEnd l = tt
-numbered-act (dataRequest r) l = numbered-data r l
-numbered-act (unitdataRequest r) l = numbered-unitdata r l
-numbered-act (frame f) l = numbered-frame f l
-numbered-act (report i how) l = numbered-ask 15 (reportable i l) _ refl tt
-numbered-act (release i) l = numbered-ask 16 (releasable i l) _ refl tt
-
-numbered-called : (c : Call) (l : Link) → Numbered (called l (accepted c))
-unfolding called
-numbered-called c l =
-    numbered-ask 4 (isStart c || l .started) _ refl (numbered-ask 5 (inRange c) (act c l) refl (numbered-act c l))
-
--- A refused call changes no holder.
-held-refused :
-    (h : Holders) (l : Link) (c : Outcome Call) (n : ℕ)
-    → called l c ≡ refused n
-    → cond (eqb n 0) (heldAfterCall c h) h ≡ h
-held-refused h l (refused k) n e = by-test (eqb n 0) (λ q. rw q) (λ q. rw q)
-held-refused h l (accepted c) n e = rw (rw e at (numbered-called c l))
-
-pub holders-refused :
-    (h : Holders) (l : Link) (bytes : List ℕ) (n : ℕ)
-    → step l bytes ≡ refused n
-    → holders (exchange bytes (step l bytes)) h ≡ h
-unfolding holders step
-holders-refused h l bytes n e = rw e (held-refused h l (parsed bytes) n e)
-
--- What a call leaves, by the call and by its outcome.
-sound-called :
-    (h : Holders) (l : Link) (c : Outcome Call)
-    → Sound h l
-    → (o : Outcome (Done Link))
-    → called l c ≡ o
-    → Sound (cond (eqb (number o) 0) (heldAfterCall c h) h) (left l o)
-unfolding called
-sound-called h l (refused n) s (accepted d) e = let z : _≡_ {A = ℕ} 0 1 = cc in absurd (omega arith)
-sound-called h l (accepted c) s (accepted d) e =
-    let q4 = accepted-passed 4 (isStart c || l .started) (sym e) in
-    let q5 = accepted-passed 5 (inRange c) (q4 .1) in
-    sound-act h l c (q5 .0) s d (sym (q5 .1))
-sound-called h l c s (refused n) e = rw (held-refused h l c n e) s
+pub holders-accepted : (h : Holders) (bytes : List ℕ) (c : Call) (rs : List Record) → parsed bytes ≡ accepted c → holders (record { call = bytes; number = 0; records = rs }) h ≡ heldAfter (aboutCall c .toHolding) h
+unfolding holders
+holders-accepted h bytes c rs e = ap (λ (x : Holding). heldAfter x h) (done-accepted bytes c rs e)
 
 -- A call of any bytes keeps the invariant.
 pub sound-step :
     (h : Holders) (l : Link) (bytes : List ℕ)
     → Sound h l
     → Sound (holders (exchange bytes (step l bytes)) h) (left l (step l bytes))
-unfolding holders step
-sound-step h l bytes s = sound-called h l (parsed bytes) s (step l bytes) refl
+sound-step h l bytes s =
+    step-law l _ (sound-paths h l s) bytes (λ o. Sound (holders (exchange bytes o) h) (left l o))
+    (λ n k. subst (λ (x : Holders). Sound x l) (sym (holders-refused h bytes n [] k)) s)
+    (λ c d e p. subst (λ (x : Holders). Sound x (d .state)) (sym (holders-accepted h bytes c (d .records) e)) p)
+
+-- And so does a history.
+pub sound-next : (k : History) (l : Link) (c : List ℕ) → Sound (k .holders) l → Sound (andThen (exchange c (step l c)) k .holders) (left l (step l c))
+unfolding andThen
+sound-next k l c s = sound-step (k .holders) l c s
 
 -- Runs --------------------------------------------------------------------------------------------------------------------
 
 sound-after :
-    (h : Holders) (l : Link) (cs : List (List ℕ))
-    → Sound h l
-    → Sound (holdersAfter h (run l cs)) (after l cs)
-unfolding holdersAfter run after
-sound-after h l [] s = s
-sound-after h l (c ∷ cs) s =
-    sound-after (holders (exchange c (step l c)) h) (left l (step l c)) cs (sound-step h l c s)
+    (k : History) (l : Link) (cs : List (List ℕ))
+    → Sound (k .holders) l
+    → Sound (history k (run l cs) .holders) (after l cs)
+unfolding history run after
+sound-after k l [] s = s
+sound-after k l (c ∷ cs) s =
+    sound-after (andThen (exchange c (step l c)) k) (left l (step l c)) cs (sound-next k l c s)
 
 -- The invariant holds after every run.
-pub sound-run : (cs : List (List ℕ)) → Sound (holdersAfter nobody (run new cs)) (after new cs)
-sound-run cs = sound-after nobody new cs sound-new
+pub sound-run : (cs : List (List ℕ)) → Sound (holdersAfter (run new cs)) (after new cs)
+unfolding nothingYet
+sound-run cs = sound-after nothingYet new cs sound-new

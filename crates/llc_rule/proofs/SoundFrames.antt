@@ -1,30 +1,28 @@
 -- A frame that is accepted keeps the invariant: it finishes a message under way, or moves it to the front, or leaves it.
-use Prim.Native.Nat.{ℕ, _+_, _≤_}
+use Prim.Native.Nat.{_+_, _≤_}
 use native.Mathlib.Omega.{arith}
-use mathlib.Core.Path.{_≡_, _∙_, refl, sym}
+use mathlib.Core.Path.{_≡_, _∙_, refl}
 use mathlib.Core.Bool.{Bool, true, false, _&&_}
 use mathlib.Core.List.{List, _∷_, _++_}
 use mathlib.Core.Option.{Option, none, some}
 use borrow.Author.Tests.{eq-eqb, ltb-true}
 use lib.Dec.{eqb}
 use lib.ListN.{length, length-append, length-set}
-use Rattle.questions.specs.Outcome.{Outcome, accepted, refused}
-use Rattle.questions.proofs.Asked.{accepted-passed}
 use Rattle.tx_receipt.specs.Marks as Marks
 use Rattle.tx_receipt.specs.Marks.{Mark}
 use Rattle.llc_rule.specs.Lists.{any, Found, nothing, first, find}
 use Rattle.llc_rule.specs.Calls.{Frame}
-use Rattle.llc_rule.specs.Received.{Received, received, nsOf, nrOf}
+use Rattle.llc_rule.specs.Received.{Received, nsOf, nrOf}
 use Rattle.llc_rule.specs.Records.{Sent}
 use Rattle.llc_rule.specs.Messages.{Message, Due, mark}
-use Rattle.llc_rule.specs.Done.{Done}
 use Rattle.llc_rule.specs.Link.{Link, withQueues}
-use Rattle.llc_rule.specs.Step.{dueRoom, withDue, awaiting, fits, mayFinish, answeredBy, answered, dueNow, onReceived, onFrame}
+use Rattle.llc_rule.specs.Step.{dueRoom, withDue, awaiting, fits, answeredBy, answered, dueNow}
 use Rattle.llc_rule.specs.Past.{Holders}
 use Rattle.llc_rule.specs.Sound.{acknowledgedWith, unacknowledgedWith, Sound}
 use Rattle.llc_rule.proofs.Lists.{by-test, both, all-map, none-counted, FoundBy, find-by}
 use Rattle.llc_rule.proofs.Places.{mark-free}
-use Rattle.llc_rule.proofs.SoundLists.{count-yes, count-front, count-less, all-but, all-middle, owned-marked, pending-other, waiting-other, ahead-front, ahead-less, sound-done}
+use Rattle.llc_rule.proofs.SoundLists.{count-yes, count-front, count-less, all-but, all-middle, owned-marked, pending-other, waiting-other, ahead-front, ahead-less}
+use Rattle.llc_rule.proofs.Paths.{Heard, afterHeard}
 
 -- A submitted message moved to the front of the queue.
 sound-moved :
@@ -138,21 +136,7 @@ due-within : (f : Frame) (l : Link) (ns : Option Bool) → dueRoom ns l ≡ true
 due-within f l none e h = h
 due-within f l (some ns) e h = rw (length-append (l .due) _) (omega (arith, ltb-true (length (l .due)) 64 e))
 
-sound-received :
-    (h : Holders) (l : Link) (f : Frame) (o : Outcome Received)
-    → Sound h l
-    → (d : Done Link)
-    → onReceived f o l ≡ accepted d
-    → Sound h (d .state)
-unfolding onReceived
-sound-received h l f (refused n) s d e = let z : _≡_ {A = ℕ} 0 1 = cc in absurd (omega arith)
-sound-received h l f (accepted r) s d e =
-    let q13 = accepted-passed 13 (dueRoom (nsOf (r .header)) l) (sym e) in
-    let q14 = accepted-passed 14 (mayFinish f (nrOf (r .header)) l) (q13 .1) in
-    sound-done h _ d (q14 .1)
-    (sound-answered h (dueNow l (withDue f (nsOf (r .header)) l)) f (nrOf (r .header))
-    (sound-due h l (withDue f (nsOf (r .header)) l) (due-within f l (nsOf (r .header)) (q13 .0) (s .limits .due)) s))
-
-pub sound-frame : (h : Holders) (l : Link) (f : Frame) → Sound h l → (d : Done Link) → onFrame f l ≡ accepted d → Sound h (d .state)
-unfolding onFrame
-sound-frame h l f s d e = sound-received h l f (received (f .pdu)) s d e
+pub sound-heard : (h : Holders) (l : Link) (f : Frame) (r : Received) → Heard f r l → Sound h l → Sound h (afterHeard f r l)
+sound-heard h l f r a s =
+    sound-answered h (dueNow l (withDue f (nsOf (r .header)) l)) f (nrOf (r .header))
+    (sound-due h l (withDue f (nsOf (r .header)) l) (due-within f l (nsOf (r .header)) (a .room) (s .limits .due)) s)

@@ -8,18 +8,15 @@ use mathlib.Core.Option.{Option}
 use borrow.Author.Tests.{eqb-true, not-true}
 use lib.Dec.{eqb}
 use lib.ListN.{length, set, length-append}
-use Rattle.questions.specs.Outcome.{accepted}
 use Rattle.tx_receipt.specs.States.{is}
 use Rattle.tx_receipt.specs.Marks.{Mark}
 use Rattle.tx_receipt.specs.declared.TxState.the-variants.{Pending}
 use Rattle.tx_receipt.specs.declared.TxReceipt.{TxReceipt}
 use Rattle.llc_rule.specs.Lists.{keep, any}
 use Rattle.llc_rule.specs.Messages.{Message, Place, free, taken, placeAt, isFree, taken?, mark}
-use Rattle.llc_rule.specs.Records.{Record, Sent}
-use Rattle.llc_rule.specs.Done.{Done, done}
-use Rattle.llc_rule.specs.Link.{Link}
+use Rattle.llc_rule.specs.Records.{Sent}
 use Rattle.llc_rule.specs.Past.{Holders, holding}
-use Rattle.llc_rule.specs.Sound.{All, Owned, IsPending, expects, Expects, Waiting, isNobody, oneAhead, Sound}
+use Rattle.llc_rule.specs.Sound.{All, Owned, IsPending, expects, Expects, Waiting, isNobody, oneAhead}
 use Rattle.llc_rule.proofs.Places.{place-other, mark-free, mark-expects}
 use Rattle.llc_rule.proofs.Lists.{by-test, neither, clash, keep-yes, keep-no, keep-append, any-append, getD-set}
 
@@ -137,14 +134,6 @@ waiting-marked ps k i m h w =
       receipt = λ e. pending-other ps i (m .sent .receipt) _ (h e) (w .receipt e);
       time = w .time;
     }
-
--- What an accepted call leaves.
-pub sound-done :
-    (h : Holders) (l : Link) {rs : List Record} (d : Done Link)
-    → accepted d ≡ accepted (done l rs)
-    → Sound h l
-    → Sound h (d .state)
-sound-done h l {rs} d e s = let same : d ≡ done l rs = cc in rw same s
 
 -- The messages of an address ----------------------------------------------------------------------------------------------
 

@@ -1,30 +1,27 @@
 -- A request that is accepted keeps the invariant: its message is put last, with a receipt that was free.
 use Prim.Native.Nat.{ℕ, suc, _+_, _≤_, _<_}
 use native.Mathlib.Omega.{arith}
-use mathlib.Core.Path.{_≡_, _∙_, refl, sym}
-use mathlib.Core.Bool.{Bool, true, false, cond, not, _&&_, and-false}
+use mathlib.Core.Path.{_≡_, _∙_, refl}
+use mathlib.Core.Bool.{Bool, true, false, cond, not, and-false}
 use mathlib.Core.List.{List, [], _∷_, _++_}
 use mathlib.Core.Option.{Option, some}
 use borrow.Author.Tests.{eqb-true, eq-eqb, ltb-true}
 use lib.Dec.{eqb, ltb}
 use lib.ListN.{length, set, length-append, length-set}
 use lib.Seq.{getD-set-same}
-use Rattle.questions.specs.Outcome.{accepted}
-use Rattle.questions.proofs.Asked.{accepted-passed}
 use Rattle.llc_pdus.specs.declared.Pdu.{Pdu}
-use Rattle.llc_pdus.specs.declared.Pdu.the-variants.{BlUdata}
-use Rattle.llc_rule.specs.Lists.{keep, any, Found, nothing, first, find, others}
+use Rattle.llc_rule.specs.Lists.{keep, any, Found, nothing, first, others}
 use Rattle.llc_rule.specs.Calls.{Request}
-use Rattle.llc_rule.specs.Ranges.{steals, requestInRange}
+use Rattle.llc_rule.specs.Ranges.{requestInRange}
 use Rattle.llc_rule.specs.Records.{Sent}
 use Rattle.llc_rule.specs.Messages.{Message, waiting, Due, Place, free, pending, placeAt, isFree, carrierOf, sentOf}
-use Rattle.llc_rule.specs.Done.{Done}
 use Rattle.llc_rule.specs.Link.{Link, Row, withQueues, bitOf, withBit}
-use Rattle.llc_rule.specs.Step.{dueFor, receiptFree, rowFor, acknowledgedPlace, unacknowledgedPlace, onAcknowledgedPath, dataPdu, withAcknowledged, withUnacknowledged, withStolen, onData, onUnitdata}
+use Rattle.llc_rule.specs.Step.{isDueFor, dueFor, rowFor, dataPdu, withAcknowledged, withUnacknowledged}
 use Rattle.llc_rule.specs.Past.{Holders, holding}
 use Rattle.llc_rule.specs.Sound.{All, Owned, IsPending, Expects, Waiting, acknowledgedWith, unacknowledgedWith, ofAddress, Sound}
-use Rattle.llc_rule.proofs.Lists.{by-test, clash, keep-append, all-append, all-map, FoundBy, find-by}
-use Rattle.llc_rule.proofs.SoundLists.{count-append, none-passes, other-place, other-pending, other-expecting, owned-other, free-written, pending-other, waiting-other, ahead-append, sound-done}
+use Rattle.llc_rule.proofs.Lists.{by-test, clash, keep-append, all-append, all-map, find-by, TakenOut, found-out}
+use Rattle.llc_rule.proofs.Paths.{Acknowledged, Unacknowledged}
+use Rattle.llc_rule.proofs.SoundLists.{count-append, none-passes, other-place, other-pending, other-expecting, owned-other, free-written, pending-other, waiting-other, ahead-append}
 
 -- The new message ---------------------------------------------------------------------------------------------------------
 
@@ -243,16 +240,14 @@ rows-within r l b e h =
     (λ q. rw q h)
     (λ q. rw q (ltb-true (length (l .rows)) 256 (rw q at e))))
 
-others-within : {A : Type 0} (p : A → Bool) (l : List A) (f : Found A) → FoundBy p l f → length (others f l) ≤ length l
+others-within : {A : Type 0} (p : A → Bool) (l : List A) (f : Found A) → TakenOut p l f → length (others f l) ≤ length l
 others-within p l nothing s = omega arith
 others-within p l (first x xs) s =
     rw (s .whole, s .rest, length-append (s .front) (s .back), length-append (s .front) (x ∷ s .back)) (omega arith)
 
 due-within : (r : Request) (l : Link) → length (others (dueFor r l) (l .due)) ≤ length (l .due)
 unfolding dueFor
-due-within r l =
-    let p : Due → Bool = λ d. eqb (d .ssi) (r .ssi) && eqb (d .carrier) (carrierOf (l .carrier) r) in
-    others-within p (l .due) (find p (l .due)) (find-by p (l .due))
+due-within r l = others-within (isDueFor r l) (l .due) (dueFor r l) (found-out _ (l .due) (dueFor r l) (find-by _ (l .due)))
 
 -- Requests ----------------------------------------------------------------------------------------------------------------
 
@@ -263,87 +258,33 @@ receipt-within r h =
     (λ e. ltb-true (r .receipt) 128 e)
     (λ e. clash h (simp (e, and-false)))
 
-sound-with-acknowledged :
+pub sound-with-acknowledged :
     (h : Holders) (l : Link) (r : Request)
-    → r .receipt < 128
-    → receiptFree r l ≡ true
-    → rowFor r l ≡ true
-    → acknowledgedPlace l ≡ true
+    → Acknowledged r l
     → Sound h l
     → Sound (holding (r .receipt) (some (r .ssi)) h) (withAcknowledged r l)
 unfolding withAcknowledged sentOf
-sound-with-acknowledged h l r b f row place s =
+sound-with-acknowledged h l r a s =
     sound-acknowledged h l (sentOf r (carrierOf (l .carrier) r) 0 (dataPdu r (bitOf (r .ssi) (l .rows)) (dueFor r l)))
     (bitOf (r .ssi) (l .rows))
     (others (dueFor r l) (l .due))
     (withBit (r .ssi) (not (bitOf (r .ssi) (l .rows))) (l .rows))
-    b
-    f
-    (ltb-true (length (l .acknowledged)) 64 place)
+    (receipt-within r (a .range))
+    (a .free)
+    (ltb-true (length (l .acknowledged)) 64 (a .place))
     (omega (arith, due-within r l, s .limits .due))
-    (rows-within r l _ row (s .limits .rows))
+    (rows-within r l _ (a .row) (s .limits .rows))
     s
 
-sound-with-unacknowledged :
-    (h : Holders) (l : Link) (r : Request) (link : ℕ) (p : Pdu) (ds : List Due)
-    → r .receipt < 128
-    → receiptFree r l ≡ true
-    → unacknowledgedPlace l ≡ true
-    → length ds ≤ length (l .due)
+pub sound-with-unacknowledged :
+    (h : Holders) (l : Link) (r : Request) (link : ℕ) (p : Pdu) (used : Found Due)
+    → Unacknowledged r link used l
     → Sound h l
-    → Sound (holding (r .receipt) (some (r .ssi)) h) (withUnacknowledged r link p ds l)
+    → Sound (holding (r .receipt) (some (r .ssi)) h) (withUnacknowledged r link p (others used (l .due)) l)
 unfolding withUnacknowledged sentOf
-sound-with-unacknowledged h l r link p ds b f place room s =
-    sound-unacknowledged h l (sentOf r (carrierOf (l .carrier) r) link p) ds b f
-    (ltb-true (length (l .unacknowledged)) 32 place)
-    (omega (arith, room, s .limits .due))
+sound-with-unacknowledged h l r link p used a s =
+    sound-unacknowledged h l (sentOf r (carrierOf (l .carrier) r) link p) (others used (l .due)) (receipt-within r (a .range))
+    (a .free)
+    (ltb-true (length (l .unacknowledged)) 32 (a .place))
+    (omega (arith, others-within (isDueFor r l) (l .due) used (a .used), s .limits .due))
     s
-
-sound-with-stolen :
-    (h : Holders) (l : Link) (r : Request) (d : Found Due)
-    → r .receipt < 128
-    → receiptFree r l ≡ true
-    → unacknowledgedPlace l ≡ true
-    → length (others d (l .due)) ≤ length (l .due)
-    → Sound h l
-    → Sound (holding (r .receipt) (some (r .ssi)) h) (withStolen r l d)
-unfolding withStolen
-sound-with-stolen h l r (first d ds) b f place room s = sound-with-unacknowledged h l r _ _ ds b f place room s
-sound-with-stolen h l r nothing b f place room s = sound-with-unacknowledged h l r _ _ (l .due) b f place room s
-
-pub sound-data :
-    (h : Holders) (l : Link) (r : Request)
-    → requestInRange r ≡ true
-    → Sound h l
-    → (d : Done Link)
-    → onData r l ≡ accepted d
-    → Sound (holding (r .receipt) (some (r .ssi)) h) (d .state)
-unfolding onData
-sound-data h l r b s d e =
-    let q6 = accepted-passed 6 (receiptFree r l) (sym e) in
-    let g = q6 .1 in
-    by-test (onAcknowledgedPath r)
-    (λ path.
-    let q7 = accepted-passed 7 (rowFor r l) (rw path at g) in
-    let q8 = accepted-passed 8 (acknowledgedPlace l) (q7 .1) in
-    sound-done _ _ d (q8 .1) (sound-with-acknowledged h l r (receipt-within r b) (q6 .0) (q7 .0) (q8 .0) s))
-    (λ path.
-    let q8 = accepted-passed 8 (unacknowledgedPlace l) (rw path at g) in
-    sound-done _ _ d (q8 .1)
-    (by-test (steals r)
-    (λ t. rw t (sound-with-stolen h l r (dueFor r l) (receipt-within r b) (q6 .0) (q8 .0) (due-within r l) s))
-    (λ t. rw t (sound-with-stolen h l r nothing (receipt-within r b) (q6 .0) (q8 .0) (omega arith) s))))
-
-pub sound-unitdata :
-    (h : Holders) (l : Link) (r : Request)
-    → requestInRange r ≡ true
-    → Sound h l
-    → (d : Done Link)
-    → onUnitdata r l ≡ accepted d
-    → Sound (holding (r .receipt) (some (r .ssi)) h) (d .state)
-unfolding onUnitdata
-sound-unitdata h l r b s d e =
-    let q6 = accepted-passed 6 (receiptFree r l) (sym e) in
-    let q8 = accepted-passed 8 (unacknowledgedPlace l) (q6 .1) in
-    sound-done _ _ d (q8 .1)
-    (sound-with-unacknowledged h l r (r .link) (BlUdata false) (l .due) (receipt-within r b) (q6 .0) (q8 .0) (omega arith) s)

@@ -9,6 +9,8 @@ use lib.ListN.{length, set}
 use Rattle.questions.specs.Outcome.{number}
 use Rattle.tx_receipt.specs.Marks.{discarded}
 use Rattle.tx_receipt.specs.declared.TxState.the-variants.{Transmitted}
+use Rattle.llc_pdus.specs.Writes.{longest}
+use Rattle.llc_rule.specs.Limits.{longestFrame, storeBytes, outputBytes}
 use Rattle.llc_rule.specs.Lists.{keep, any, all}
 use Rattle.llc_rule.specs.Calls.{toBytes}
 use Rattle.llc_rule.specs.Records.{Record, acknowledged, reply, unacknowledged, dataUp, unitdataUp, Sent, Indication}
@@ -17,8 +19,8 @@ use Rattle.llc_rule.specs.Link.{Link, new, withReceipts}
 use Rattle.llc_rule.specs.Step.{step}
 use Rattle.llc_rule.specs.Rule.{atFirst, afterStart, afterReport, does, judged, rule}
 use Rattle.llc_rule.specs.Runs.{Exchange, after}
-use Rattle.llc_rule.specs.Past.{Holders, nobody, holders, everybody's, nobody's, belongsTo, whose, inPast, past, strays, holdersAfter, sight, heldBy, takenFrom}
-use Rattle.llc_rule.specs.Claim.{ruleRun, unhindered}
+use Rattle.llc_rule.specs.Past.{about, Holders, nobody, doneTo, holders, everybody's, nobody's, belongsTo, whose, inPast, nothingYet, andThen, history, past, strays, holdersAfter, sight, heldBy, takenFrom}
+use Rattle.llc_rule.specs.Seen.{ruleRun, unhindered}
 use Rattle.llc_rule.specs.Sendings.{handed, sendings}
 use Rattle.llc_rule.proofs.Runs.{hex, exchanges}
 
@@ -87,6 +89,10 @@ indication a = record { ssi = a; type = 1; link = 0; endpoint = 0x92a3b4c5; bloc
 abbrev told : List ℕ → ℕ → List Record → Exchange
 told c n rs = record { call = c; number = n; records = rs }
 
+-- Document 01's lengths, as it gives them.
+lengths : longestFrame ∷ longest ∷ storeBytes ∷ outputBytes ∷ [] ≡ 2633 ∷ 2595 ∷ 32256 ∷ 46656 ∷ []
+lengths = refl
+
 -- The numbers from 0 to 24.
 abbrev numbers : List ℕ
 numbers = 0 ∷ 1 ∷ 2 ∷ 3 ∷ 4 ∷ 5 ∷ 6 ∷ 7 ∷ 8 ∷ 9 ∷ 10 ∷ 11 ∷ 12 ∷ 13 ∷ 14 ∷ 15 ∷ 16 ∷ 17 ∷ 18 ∷ 19 ∷ 20 ∷ 21 ∷ 22 ∷ 23 ∷ 24 ∷ []
@@ -112,38 +118,38 @@ past-numbers :
     map (λ (n : ℕ). inPast first nobody (told frame n [])) numbers
     ≡ true ∷ false ∷ true ∷ true ∷ true ∷ true ∷ true ∷ true ∷ true ∷ true ∷ true ∷ true ∷ true ∷ true ∷ true ∷ true ∷ true
     ∷ true ∷ true ∷ true ∷ true ∷ true ∷ true ∷ true ∷ true ∷ []
-unfolding inPast whose toBytes exchanges
+unfolding inPast whose about toBytes exchanges
 past-numbers = refl
 
 past-others :
     map (λ (c : List ℕ). inPast first nobody (told c 0 [])) (itsFrame ∷ noCall ∷ release ∷ start ∷ tickStart ∷ tickEnd ∷ request ∷ [])
     ≡ false ∷ false ∷ false ∷ true ∷ true ∷ true ∷ true ∷ []
-unfolding inPast whose toBytes exchanges
+unfolding inPast whose about toBytes exchanges
 past-others = refl
 
 -- In order, with the receipt that its request holds until a release of that receipt is accepted.
 past-order :
-    past first nobody
+    past first
     (told tickEnd 4 [] ∷ told report 15 [] ∷ told request 0 [] ∷ told itsFrame 0 [] ∷ told report 15 [] ∷ told release 16 []
     ∷ told frame 1 [] ∷ told itsRelease 0 [] ∷ told release 0 [] ∷ told release 16 [] ∷ [])
     ≡ told tickEnd 4 [] ∷ told request 0 [] ∷ told report 15 [] ∷ told release 16 [] ∷ told release 0 [] ∷ []
-unfolding past inPast holders whose toBytes exchanges
+unfolding history nothingYet andThen inPast holders doneTo whose about toBytes exchanges
 past-order = refl
 
 -- Whose a call is: by its SSI, or by the receipt that it names.
 abbrev held : Holders
-held i = holdersAfter nobody (told request 0 [] ∷ []) i
+held i = holdersAfter (told request 0 [] ∷ []) i
 
 whose-calls :
     map (whose held) (start ∷ tickStart ∷ tickEnd ∷ request ∷ frame ∷ report ∷ release ∷ itsFrame ∷ itsRelease ∷ noCall ∷ [])
     ≡ everybody's ∷ everybody's ∷ everybody's ∷ belongsTo first ∷ belongsTo first ∷ belongsTo first ∷ belongsTo first
     ∷ belongsTo second ∷ nobody's ∷ nobody's ∷ []
-unfolding whose holders holdersAfter toBytes exchanges
+unfolding whose about holders doneTo history nothingYet andThen inPast toBytes exchanges
 whose-calls = refl
 
 -- Who holds receipt 11: from an accepted request on, until an accepted release of it or an accepted start.
 abbrev holder : List Exchange → Option ℕ
-holder es = holdersAfter nobody (told request 0 [] ∷ es) 0x11
+holder es = holdersAfter (told request 0 [] ∷ es) 0x11
 
 holding :
     map holder
@@ -156,17 +162,17 @@ holding :
     ∷ (told start 0 [] ∷ [])
     ∷ [])
     ≡ some first ∷ some first ∷ some first ∷ some first ∷ none ∷ some first ∷ none ∷ []
-unfolding holders holdersAfter toBytes exchanges
+unfolding holders doneTo about history nothingYet andThen inPast whose toBytes exchanges
 holding = refl
 
-not-holding : holdersAfter nobody (told request 8 [] ∷ told report 0 [] ∷ []) 0x11 ≡ none
-unfolding holders holdersAfter toBytes exchanges
+not-holding : holdersAfter (told request 8 [] ∷ told report 0 [] ∷ []) 0x11 ≡ none
+unfolding holders doneTo about history nothingYet andThen inPast whose toBytes exchanges
 not-holding = refl
 
 -- Records with the SSI of an address that calls outside its past give are strays, also of a call with number 1; those of its own
 -- calls and of ticks are none.
 stray :
-    strays first nobody
+    strays first
     (told tickEnd 0 (acknowledged (message first 0x11) ∷ [])
     ∷ told frame 0 (dataUp (indication first) ∷ [])
     ∷ told itsFrame 0 (dataUp (indication second) ∷ dataUp (indication first) ∷ [])
@@ -174,7 +180,7 @@ stray :
     ∷ told noCall 2 (answer first ∷ answer second ∷ [])
     ∷ [])
     ≡ dataUp (indication first) ∷ unitdataUp (indication first) ∷ answer first ∷ []
-unfolding strays inPast holders whose keep toBytes exchanges
+unfolding history nothingYet andThen inPast holders doneTo whose about keep toBytes exchanges
 stray = refl
 
 -- Of a tick end an address sees the records with its SSI, of another call all.
@@ -194,7 +200,7 @@ abbrev places : List Place
 places = pending true ∷ free ∷ marked discarded (pending true) ∷ pending false ∷ []
 
 held-receipts : heldBy first held 0x10 places ≡ record { receipt = 0x11; place = free } ∷ []
-unfolding heldBy holders holdersAfter toBytes exchanges
+unfolding heldBy holders doneTo about history nothingYet andThen inPast whose toBytes exchanges
 held-receipts = refl
 
 taken-receipts :
@@ -213,7 +219,7 @@ mixed =
     ∷ acknowledged (message second 0x11) ∷ []
 
 sent-twice : sendings 0x11 (told tickEnd 0 mixed ∷ []) ≡ message first 0x11 ∷ message second 0x11 ∷ []
-unfolding sendings handed toBytes exchanges
+unfolding sendings doneTo about handed toBytes exchanges
 sent-twice = refl
 
 -- Only an accepted start, and an accepted release of the receipt, end it.
@@ -226,7 +232,7 @@ sent-while-held :
     ∷ told itsRelease 0 [] ∷ told release 16 [] ∷ told release 0 [] ∷ told release 0 mixed ∷ told start 5 [] ∷ told start 0 []
     ∷ [])
     ≡ 4 ∷ 6 ∷ 4 ∷ 4 ∷ 4 ∷ 4 ∷ 4 ∷ 4 ∷ 2 ∷ 2 ∷ 4 ∷ 2 ∷ []
-unfolding sendings handed toBytes exchanges
+unfolding sendings doneTo about handed toBytes exchanges
 sent-while-held = refl
 
 -- The rule answers each call from what it kept of those before it.

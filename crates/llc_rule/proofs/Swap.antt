@@ -2,95 +2,123 @@
 use Prim.Native.Nat.{ℕ}
 use mathlib.Core.Path.{_≡_, _∙_, refl, sym, ap, ap₂}
 use mathlib.Core.Bool.{Bool, true, false, not, _&&_, false≢true}
-use mathlib.Core.List.{List, [], _∷_, _++_, map}
+use mathlib.Core.List.{List, [], _∷_, _++_, map, map-append, append-nil}
 use mathlib.Core.Option.{Option, none, some}
 use borrow.Author.Tests.{eqb-true, eqb-false, eq-eqb, ne-eqb}
 use lib.Dec.{eqb}
-use Rattle.questions.specs.Outcome.{Outcome, accepted, refused, number}
+use Rattle.questions.specs.Outcome.{number}
 use Rattle.llc_rule.specs.Lists.{all, among}
-use Rattle.llc_rule.specs.Calls.{Call, start, tickStart, tickEnd, dataRequest, unitdataRequest, frame, report, release, parsed}
-use Rattle.llc_rule.specs.Messages.{free, placeAt, isFree}
+use Rattle.llc_rule.specs.Messages.{placeAt, isFree}
 use Rattle.llc_rule.specs.Link.{Link, new}
 use Rattle.llc_rule.specs.Step.{step}
 use Rattle.llc_rule.specs.Rule.{Own, rule}
 use Rattle.llc_rule.specs.Runs.{left, given, Exchange, exchange, run, after}
-use Rattle.llc_rule.specs.Past.{Holders, nobody, holders, belongsTo, holder's, whoseCall, whoseIs, whose, concerns, leftOut, inPast, past, holdersAfter, Sight, sight, isHolder, takenFrom}
-use Rattle.llc_rule.specs.Claim.{calls, hindrances, unhindered, Swap}
+use Rattle.llc_rule.specs.Past.{Whom, everybody, address, holderOf, noOne, about, Holders, Whose, belongsTo, holder's, whoseOf, whose, concerns, leftOut, inPast, History, nothingYet, andThen, history, Sight, sight, isHolder, takenFrom}
+use Rattle.llc_rule.specs.Seen.{calls, hindrances, unhindered, SeesTheSame}
+use Rattle.llc_rule.specs.Claim.{whoseAfter}
 use Rattle.llc_rule.specs.Sound.{Sound}
 use Rattle.llc_rule.proofs.Lists.{by-test, both, and-false}
 use Rattle.llc_rule.proofs.Own.{own, place-blank}
 use Rattle.llc_rule.proofs.SeenCalls.{Unhindered}
-use Rattle.llc_rule.proofs.SoundCalls.{sound-new, sound-step}
-use Rattle.llc_rule.proofs.Demand3.{Mine, Others, mine, others, holder-somebody, held-own}
+use Rattle.llc_rule.proofs.SoundCalls.{sound-new, sound-next}
+use Rattle.llc_rule.proofs.Demand3.{Mine, mine, others, holder-somebody, held-own, calls-last}
 
--- The link and who holds its receipts after a call.
-abbrev nextHolders : Holders → Link → List ℕ → Holders
-nextHolders h l c = holders (exchange c (step l c)) h
+-- A moment of a run: what is known of it, and the link. The next one, after a call.
+record Moment : Type 0 where
+  known : History
+  link : Link
 
-abbrev nextLink : Link → List ℕ → Link
-nextLink l c = left l (step l c)
+abbrev next : Moment → List ℕ → Moment
+next x c = record { known = andThen (exchange c (step (x .link) c)) (x .known); link = left (x .link) (step (x .link) c) }
 
--- From two links, two lists of calls show an address the same, and leave it the same.
-record SameFrom (a : ℕ) (h : Holders) (l : Link) (cs : List (List ℕ)) (h′ : Holders) (l′ : Link) (ds : List (List ℕ)) : Type 0 where
-  same-calls : calls (past a h (run l cs)) ≡ calls (past a h′ (run l′ ds))
-  same-sights : map (sight a) (past a h (run l cs)) ≡ map (sight a) (past a h′ (run l′ ds))
-  same-own : own a (holdersAfter h (run l cs)) (after l cs) ≡ own a (holdersAfter h′ (run l′ ds)) (after l′ ds)
+abbrev ends : Moment → List (List ℕ) → Moment
+ends x cs = record { known = history (x .known) (run (x .link) cs); link = after (x .link) cs }
 
-turned : (a : ℕ) (h : Holders) (l : Link) (cs : List (List ℕ)) (h′ : Holders) (l′ : Link) (ds : List (List ℕ)) → SameFrom a h l cs h′ l′ ds → SameFrom a h′ l′ ds h l cs
-turned a h l cs h′ l′ ds s = record { same-calls = sym (s .same-calls); same-sights = sym (s .same-sights); same-own = sym (s .same-own) }
+abbrev SoundAt : Moment → Type 0
+SoundAt x = Sound (x .known .holders) (x .link)
 
--- A call that does not concern the address is passed over.
-skip :
-    (a : ℕ) (h : Holders) (l : Link) (c : List ℕ) (cs : List (List ℕ)) (h′ : Holders) (l′ : Link) (ds : List (List ℕ))
-    → concerns a (whose h c) ≡ false
-    → SameFrom a (nextHolders h l c) (nextLink l c) cs h′ l′ ds
-    → SameFrom a h l (c ∷ cs) h′ l′ ds
-unfolding run after past holdersAfter inPast
-skip a h l c cs h′ l′ ds w s =
-    let p = and-false (not (leftOut (number (step l c)))) w in
-    record { same-calls = rw p (s .same-calls); same-sights = rw p (s .same-sights); same-own = s .same-own }
+-- Whose a call is at a moment.
+abbrev whoseAt : Moment → List ℕ → Whose
+whoseAt x c = whose (x .known .holders) c
 
--- A call that does concern it shows it the same on both links, where it has the same of both.
-same-mine :
-    (a : ℕ) (h : Holders) (l : Link) (h′ : Holders) (l′ : Link) (c : List ℕ) (cs ds : List (List ℕ))
-    → own a h l ≡ own a h′ l′
-    → concerns a (whose h c) ≡ true
-    → concerns a (whose h′ c) ≡ true
-    → Mine a h l c
-    → Mine a h′ l′ c
-    → SameFrom a (nextHolders h l c) (nextLink l c) cs (nextHolders h′ l′ c) (nextLink l′ c) ds
-    → SameFrom a h l (c ∷ cs) h′ l′ (c ∷ ds)
-unfolding run after past holdersAfter inPast sight
-same-mine a h l h′ l′ c cs ds q w w′ m m′ s =
-    let e : Exchange = exchange c (step l c) in
-    let e′ : Exchange = exchange c (step l′ c) in
-    let numbers : number (step l c) ≡ number (step l′ c) = m .number ∙ ap (λ (o : Own). number (rule o c)) q ∙ sym (m′ .number) in
-    let records : sight a e .records ≡ sight a e′ .records =
-    m .records ∙ ap (λ (o : Own). given (rule o c)) q ∙ sym (m′ .records)
+abbrev numberAt : Moment → List ℕ → ℕ
+numberAt x c = number (step (x .link) c)
+
+-- Two moments at which an address has seen the same and has the same.
+record Alike (a : ℕ) (x y : Moment) : Type 0 where
+  same-calls : calls (x .known .past a) ≡ calls (y .known .past a)
+  same-sights : map (sight a) (x .known .past a) ≡ map (sight a) (y .known .past a)
+  same-own : own a (x .known .holders) (x .link) ≡ own a (y .known .holders) (y .link)
+
+alike-itself : (a : ℕ) (x : Moment) → Alike a x x
+alike-itself a x = record { same-calls = refl; same-sights = refl; same-own = refl }
+
+turned : (a : ℕ) (x y : Moment) → Alike a x y → Alike a y x
+turned a x y s = record { same-calls = sym (s .same-calls); same-sights = sym (s .same-sights); same-own = sym (s .same-own) }
+
+-- A call that does not concern the address, on the one side.
+own-other :
+    (a : ℕ) (x : Moment) (c : List ℕ)
+    → SoundAt x
+    → concerns a (whoseAt x c) ≡ false
+    → own a (next x c .known .holders) (next x c .link) ≡ own a (x .known .holders) (x .link)
+unfolding andThen inPast
+own-other a x c ok w = others a (x .known .holders) (x .link) c ok (and-false (not (leftOut (numberAt x c))) w) .next
+
+alike-other : (a : ℕ) (x y : Moment) (c : List ℕ) → SoundAt x → concerns a (whoseAt x c) ≡ false → Alike a x y → Alike a (next x c) y
+unfolding andThen inPast
+alike-other a x y c ok w s =
+    let p = and-false (not (leftOut (numberAt x c))) w in
+    let n = append-nil (x .known .past a) in
+    record {
+      same-calls = rw (p, n) (s .same-calls);
+      same-sights = rw (p, n) (s .same-sights);
+      same-own = own-other a x c ok w ∙ s .same-own;
+    }
+
+-- A call that concerns it on both sides.
+alike-mine :
+    (a : ℕ) (x y : Moment) (c : List ℕ)
+    → concerns a (whoseAt x c) ≡ true
+    → concerns a (whoseAt y c) ≡ true
+    → Mine a (x .known .holders) (x .link) c
+    → Mine a (y .known .holders) (y .link) c
+    → Alike a x y
+    → Alike a (next x c) (next y c)
+unfolding andThen inPast sight
+alike-mine a x y c w v m n s =
+    let e : Exchange = exchange c (step (x .link) c) in
+    let f : Exchange = exchange c (step (y .link) c) in
+    let numbers : numberAt x c ≡ numberAt y c = m .number ∙ ap (λ (o : Own). number (rule o c)) (s .same-own) ∙ sym (n .number) in
+    let records : sight a e .records ≡ sight a f .records =
+    m .records ∙ ap (λ (o : Own). given (rule o c)) (s .same-own) ∙ sym (n .records)
     in
-    let in-both : inPast a h e ≡ inPast a h′ e′ = ap₂ (λ (k : ℕ) (b : Bool). not (leftOut k) && b) numbers (w ∙ sym w′) in
-    by-test (inPast a h e)
+    let sights : sight a e ≡ sight a f = λ i. record { number = numbers i; records = records i } in
+    let own-next = m .next ∙ ap (λ (o : Own). left o (rule o c)) (s .same-own) ∙ sym (n .next) in
+    let in-both : inPast a (x .known .holders) e ≡ inPast a (y .known .holders) f =
+    ap₂ (λ (k : ℕ) (b : Bool). not (leftOut k) && b) numbers (w ∙ sym v)
+    in
+    by-test (inPast a (x .known .holders) e)
     (λ p.
     record {
-      same-calls = rw (p, sym in-both ∙ p) (ap (λ (x : List (List ℕ)). c ∷ x) (s .same-calls));
-      same-sights = rw (p, sym in-both ∙ p) (λ i. record { number = numbers i; records = records i } ∷ s .same-sights i);
-      same-own = s .same-own;
+      same-calls =
+          rw (p, sym in-both ∙ p)
+          (calls-last (x .known .past a) e
+          ∙ ap (λ (t : List (List ℕ)). t ++ (c ∷ [])) (s .same-calls)
+          ∙ sym (calls-last (y .known .past a) f));
+      same-sights =
+          rw (p, sym in-both ∙ p)
+          (map-append (sight a) (x .known .past a) (e ∷ [])
+          ∙ ap₂ (λ (t : List Sight) (z : Sight). t ++ (z ∷ [])) (s .same-sights) sights
+          ∙ sym (map-append (sight a) (y .known .past a) (f ∷ [])));
+      same-own = own-next;
     })
     (λ p.
     record {
-      same-calls = rw (p, sym in-both ∙ p) (s .same-calls);
-      same-sights = rw (p, sym in-both ∙ p) (s .same-sights);
-      same-own = s .same-own;
+      same-calls = rw (p, sym in-both ∙ p, append-nil (x .known .past a), append-nil (y .known .past a)) (s .same-calls);
+      same-sights = rw (p, sym in-both ∙ p, append-nil (x .known .past a), append-nil (y .known .past a)) (s .same-sights);
+      same-own = own-next;
     })
-
--- What it has of the two links after such a call, and after one that does not concern it.
-next-mine : (a : ℕ) (h : Holders) (l : Link) (h′ : Holders) (l′ : Link) (c : List ℕ) → own a h l ≡ own a h′ l′ → Mine a h l c → Mine a h′ l′ c
-    → own a (nextHolders h l c) (nextLink l c) ≡ own a (nextHolders h′ l′ c) (nextLink l′ c)
-next-mine a h l h′ l′ c q m m′ = m .next ∙ ap (λ (o : Own). left o (rule o c)) q ∙ sym (m′ .next)
-
-others-here : (a : ℕ) (h : Holders) (l : Link) (c : List ℕ) → Sound h l → concerns a (whose h c) ≡ false → Others a h l c
-unfolding inPast
-others-here a h l c ok w = others a h l c ok (and-false (not (leftOut (number (step l c)))) w)
 
 concerns-holder : (a : ℕ) (w : Option ℕ) → concerns a (holder's w) ≡ isHolder a w
 concerns-holder a none = refl
@@ -105,260 +133,187 @@ holds a h l i ok =
     (λ e. rw (place-blank a h (l .receipts) i, e))
 
 -- And so is whether a call concerns it.
-concerns-call : (a : ℕ) (h h′ : Holders) (c : Call) → ((i : ℕ) → isHolder a (h i) ≡ isHolder a (h′ i)) → concerns a (whoseCall h c) ≡ concerns a (whoseCall h′ c)
-concerns-call a h h′ (start carrier t251) e = refl
-concerns-call a h h′ (tickStart time) e = refl
-concerns-call a h h′ tickEnd e = refl
-concerns-call a h h′ (dataRequest r) e = refl
-concerns-call a h h′ (unitdataRequest r) e = refl
-concerns-call a h h′ (frame f) e = refl
-concerns-call a h h′ (report i how) e = concerns-holder a (h i) ∙ e i ∙ sym (concerns-holder a (h′ i))
-concerns-call a h h′ (release i) e = concerns-holder a (h i) ∙ e i ∙ sym (concerns-holder a (h′ i))
+concerns-whom : (a : ℕ) (h g : Holders) (w : Whom) → ((i : ℕ) → isHolder a (h i) ≡ isHolder a (g i)) → concerns a (whoseOf h w) ≡ concerns a (whoseOf g w)
+concerns-whom a h g everybody e = refl
+concerns-whom a h g (address b) e = refl
+concerns-whom a h g (holderOf i) e = concerns-holder a (h i) ∙ e i ∙ sym (concerns-holder a (g i))
+concerns-whom a h g noOne e = refl
 
-concerns-outcome : (a : ℕ) (h h′ : Holders) (c : Outcome Call) → ((i : ℕ) → isHolder a (h i) ≡ isHolder a (h′ i)) → concerns a (whoseIs h c) ≡ concerns a (whoseIs h′ c)
-concerns-outcome a h h′ (refused n) e = refl
-concerns-outcome a h h′ (accepted c) e = concerns-call a h h′ c e
-
-same-concern : (a : ℕ) (h : Holders) (l : Link) (h′ : Holders) (l′ : Link) (c : List ℕ) → Sound h l → Sound h′ l′ → own a h l ≡ own a h′ l′ → concerns a (whose h c) ≡ concerns a (whose h′ c)
+same-concern : (a : ℕ) (x y : Moment) (c : List ℕ) → SoundAt x → SoundAt y → own a (x .known .holders) (x .link) ≡ own a (y .known .holders) (y .link) → concerns a (whoseAt x c) ≡ concerns a (whoseAt y c)
 unfolding whose
-same-concern a h l h′ l′ c ok ok′ q =
-    concerns-outcome a h h′ (parsed c)
-    (λ i. holds a h l i ok ∙ ap (λ (o : Own). not (isFree (placeAt (o .receipts) i))) q ∙ sym (holds a h′ l′ i ok′))
+same-concern a x y c ok also q =
+    concerns-whom a (x .known .holders) (y .known .holders) (about c .whom)
+    (λ i.
+    holds a (x .known .holders) (x .link) i ok
+    ∙ ap (λ (o : Own). not (isFree (placeAt (o .receipts) i))) q
+    ∙ sym (holds a (y .known .holders) (y .link) i also))
 
--- The same calls, from two links of which it has the same.
-first-unhindered : (l : Link) (c : List ℕ) (cs : List (List ℕ)) → unhindered (run l (c ∷ cs)) ≡ true → Unhindered (number (step l c)) × (unhindered (run (nextLink l c) cs) ≡ true)
+-- The same calls, from two moments that are alike.
+first-unhindered : (l : Link) (c : List ℕ) (cs : List (List ℕ)) → unhindered (run l (c ∷ cs)) ≡ true → Unhindered (number (step l c)) × (unhindered (run (left l (step l c)) cs) ≡ true)
 unfolding unhindered all run
-first-unhindered l c cs u = both {x = not (among (number (step l c)) hindrances)} {y = unhindered (run (nextLink l c) cs)} u
+first-unhindered l c cs u = both {x = not (among (number (step l c)) hindrances)} {y = unhindered (run (left l (step l c)) cs)} u
 
-same-seen :
-    (a : ℕ) (h : Holders) (l : Link) (h′ : Holders) (l′ : Link) (cs : List (List ℕ))
-    → Sound h l
-    → Sound h′ l′
-    → own a h l ≡ own a h′ l′
-    → unhindered (run l cs) ≡ true
-    → unhindered (run l′ cs) ≡ true
-    → SameFrom a h l cs h′ l′ cs
-unfolding run after past holdersAfter
-same-seen a h l h′ l′ [] ok ok′ q u u′ = record { same-calls = refl; same-sights = refl; same-own = q }
-same-seen a h l h′ l′ (c ∷ cs) ok ok′ q u u′ =
-    let v = first-unhindered l c cs u in
-    let v′ = first-unhindered l′ c cs u′ in
-    let next = sound-step h l c ok in
-    let next′ = sound-step h′ l′ c ok′ in
-    let alike = same-concern a h l h′ l′ c ok ok′ q in
-    by-test (concerns a (whose h c))
+alike-next : (a : ℕ) (x y : Moment) (c : List ℕ) → SoundAt x → SoundAt y → Unhindered (numberAt x c) → Unhindered (numberAt y c) → Alike a x y → Alike a (next x c) (next y c)
+alike-next a x y c ok also u v s =
+    let both-are = same-concern a x y c ok also (s .same-own) in
+    by-test (concerns a (whoseAt x c))
     (λ w.
-    let m = mine a h l c ok (v .0) w in
-    let m′ = mine a h′ l′ c ok′ (v′ .0) (sym alike ∙ w) in
-    same-mine a h l h′ l′ c cs cs q w (sym alike ∙ w) m m′
-    (same-seen a (nextHolders h l c) (nextLink l c) (nextHolders h′ l′ c) (nextLink l′ c) cs next next′ (next-mine a h l h′ l′ c q m m′) (v .1) (v′ .1)))
+    alike-mine a x y c w (sym both-are ∙ w)
+    (mine a (x .known .holders) (x .link) c ok u w)
+    (mine a (y .known .holders) (y .link) c also v (sym both-are ∙ w))
+    s)
     (λ w.
-    let o = others-here a h l c ok w in
-    let o′ = others-here a h′ l′ c ok′ (sym alike ∙ w) in
-    let rest =
-    same-seen a (nextHolders h l c) (nextLink l c) (nextHolders h′ l′ c) (nextLink l′ c) cs next next′ (o .next ∙ q ∙ sym (o′ .next)) (v .1) (v′ .1)
-    in
-    skip a h l c cs h′ l′ (c ∷ cs) w
-    (turned a h′ l′ (c ∷ cs) (nextHolders h l c) (nextLink l c) cs
-    (skip a h′ l′ c cs (nextHolders h l c) (nextLink l c) cs (sym alike ∙ w)
-    (turned a (nextHolders h l c) (nextLink l c) cs (nextHolders h′ l′ c) (nextLink l′ c) cs rest))))
+    alike-other a x (next y c) c ok w (turned a (next y c) x (alike-other a y x c also (sym both-are ∙ w) (turned a x y s))))
+
+alike-later :
+    (a : ℕ) (x y : Moment) (cs : List (List ℕ))
+    → SoundAt x
+    → SoundAt y
+    → unhindered (run (x .link) cs) ≡ true
+    → unhindered (run (y .link) cs) ≡ true
+    → Alike a x y
+    → Alike a (ends x cs) (ends y cs)
+unfolding run after history
+alike-later a x y [] ok also u v s = s
+alike-later a x y (c ∷ cs) ok also u v s =
+    let here = first-unhindered (x .link) c cs u in
+    let there = first-unhindered (y .link) c cs v in
+    alike-later a (next x c) (next y c) cs (sound-next (x .known) (x .link) c ok) (sound-next (y .known) (y .link) c also)
+    (here .1)
+    (there .1)
+    (alike-next a x y c ok also (here .0) (there .0) s)
 
 concerned-holder : (t : ℕ) (w : Option ℕ) → concerns t (holder's w) ≡ true → holder's w ≡ belongsTo t
 concerned-holder t none e = absurd (false≢true e)
 concerned-holder t (some b) e = ap belongsTo (eqb-true b t e)
 
 -- A call of one address that still concerns it is still its own.
-still-belongs : (h h′ : Holders) (t : ℕ) (c : Outcome Call) → whoseIs h′ c ≡ belongsTo t → concerns t (whoseIs h c) ≡ true → whoseIs h c ≡ belongsTo t
-still-belongs h h′ t (refused n) e w = absurd (false≢true w)
-still-belongs h h′ t (accepted (start carrier t251)) e w = e
-still-belongs h h′ t (accepted (tickStart time)) e w = e
-still-belongs h h′ t (accepted tickEnd) e w = e
-still-belongs h h′ t (accepted (dataRequest r)) e w = e
-still-belongs h h′ t (accepted (unitdataRequest r)) e w = e
-still-belongs h h′ t (accepted (frame f)) e w = e
-still-belongs h h′ t (accepted (report i how)) e w = concerned-holder t (h i) w
-still-belongs h h′ t (accepted (release i)) e w = concerned-holder t (h i) w
+still-belongs : (h g : Holders) (t : ℕ) (w : Whom) → whoseOf g w ≡ belongsTo t → concerns t (whoseOf h w) ≡ true → whoseOf h w ≡ belongsTo t
+still-belongs h g t everybody e c = e
+still-belongs h g t (address b) e c = e
+still-belongs h g t (holderOf i) e c = concerned-holder t (h i) c
+still-belongs h g t noOne e c = e
 
--- Two calls of different addresses, from one sound link.
+-- Two calls of different addresses, from one sound moment.
 module _
-    (h : Holders) (l : Link) (c d : List ℕ) (later : List (List ℕ)) (s t : ℕ) (ok : Sound h l) (c-is : whose h c ≡ belongsTo s)
-    (d-is : whose (nextHolders h l c) d ≡ belongsTo t) (differ : eqb s t ≡ false)
-    (one : unhindered (run l (c ∷ d ∷ later)) ≡ true) (other : unhindered (run l (d ∷ c ∷ later)) ≡ true)
+    (x : Moment) (c d : List ℕ) (s t : ℕ) (ok : SoundAt x) (c-is : whoseAt x c ≡ belongsTo s)
+    (d-is : whoseAt (next x c) d ≡ belongsTo t) (differ : eqb s t ≡ false)
   where
-    abbrev h₁ : Holders
-    h₁ = nextHolders h l c
+    sound-c : SoundAt (next x c)
+    sound-c = sound-next (x .known) (x .link) c ok
 
-    abbrev l₁ : Link
-    l₁ = nextLink l c
-
-    abbrev g₁ : Holders
-    g₁ = nextHolders h l d
-
-    abbrev k₁ : Link
-    k₁ = nextLink l d
-
-    ok₁ : Sound h₁ l₁
-    ok₁ = sound-step h l c ok
+    sound-d : SoundAt (next x d)
+    sound-d = sound-next (x .known) (x .link) d ok
 
     differ-too : eqb t s ≡ false
     differ-too = ne-eqb t s (λ e. eqb-false s t differ (sym e))
 
-    concerns-c : (a : ℕ) → concerns a (whose h c) ≡ eqb s a
-    concerns-c a = ap (concerns a) c-is
-
-    concerns-d₁ : (a : ℕ) → concerns a (whose h₁ d) ≡ eqb t a
-    concerns-d₁ a = ap (concerns a) d-is
-
     -- The second call is of the same address before the first, and the first is after the second.
-    d-first : whose h d ≡ belongsTo t
+    d-first : whoseAt x d ≡ belongsTo t
     unfolding whose
     d-first =
-        still-belongs h h₁ t (parsed d) d-is
-        (same-concern t h l h₁ l₁ d ok ok₁ (sym (others-here t h l c ok (concerns-c t ∙ differ) .next))
-        ∙ concerns-d₁ t
+        still-belongs (x .known .holders) (next x c .known .holders) t (about d .whom) d-is
+        (same-concern t x (next x c) d ok sound-c (sym (own-other t x c ok (ap (concerns t) c-is ∙ differ)))
+        ∙ ap (concerns t) d-is
         ∙ eq-eqb t t refl)
 
-    concerns-d : (a : ℕ) → concerns a (whose h d) ≡ eqb t a
-    concerns-d a = ap (concerns a) d-first
-
-    ok₂ : Sound g₁ k₁
-    ok₂ = sound-step h l d ok
-
-    c-second : whose g₁ c ≡ belongsTo s
+    c-second : whoseAt (next x d) c ≡ belongsTo s
     unfolding whose
     c-second =
-        still-belongs g₁ h s (parsed c) c-is
-        (same-concern s g₁ k₁ h l c ok₂ ok (others-here s h l d ok (concerns-d s ∙ differ-too) .next)
-        ∙ concerns-c s
+        still-belongs (next x d .known .holders) (x .known .holders) s (about c .whom) c-is
+        (same-concern s (next x d) x c sound-d ok (own-other s x d ok (ap (concerns s) d-first ∙ differ-too))
+        ∙ ap (concerns s) c-is
         ∙ eq-eqb s s refl)
 
-    concerns-c₁ : (a : ℕ) → concerns a (whose g₁ c) ≡ eqb s a
-    concerns-c₁ a = ap (concerns a) c-second
-
-    -- What is not hindered, in the one order and in the other.
-    one-c : Unhindered (number (step l c)) × (unhindered (run l₁ (d ∷ later)) ≡ true)
-    one-c = first-unhindered l c (d ∷ later) one
-
-    one-d : Unhindered (number (step l₁ d)) × (unhindered (run (nextLink l₁ d) later) ≡ true)
-    one-d = first-unhindered l₁ d later (one-c .1)
-
-    other-d : Unhindered (number (step l d)) × (unhindered (run k₁ (c ∷ later)) ≡ true)
-    other-d = first-unhindered l d (c ∷ later) other
-
-    other-c : Unhindered (number (step k₁ c)) × (unhindered (run (nextLink k₁ c) later) ≡ true)
-    other-c = first-unhindered k₁ c later (other-d .1)
-
-    -- The calls after both, if the address has the same of the two links.
-    afterwards :
+    -- Whichever comes first, an address sees the same.
+    alike-swapped :
         (a : ℕ)
-        → own a (nextHolders h₁ l₁ d) (nextLink l₁ d) ≡ own a (nextHolders g₁ k₁ c) (nextLink k₁ c)
-        → SameFrom a (nextHolders h₁ l₁ d) (nextLink l₁ d) later (nextHolders g₁ k₁ c) (nextLink k₁ c) later
-    afterwards a q =
-        same-seen a (nextHolders h₁ l₁ d) (nextLink l₁ d) (nextHolders g₁ k₁ c) (nextLink k₁ c) later (sound-step h₁ l₁ d ok₁)
-        (sound-step g₁ k₁ c ok₂) q (one-d .1) (other-c .1)
-
-    swap-first : (a : ℕ) → eqb s a ≡ true → eqb t a ≡ false → SameFrom a h l (c ∷ d ∷ later) h l (d ∷ c ∷ later)
-    swap-first a p q =
-        let wc = concerns-c a ∙ p in
-        let wc₁ = concerns-c₁ a ∙ p in
-        let wd = concerns-d a ∙ q in
-        let wd₁ = concerns-d₁ a ∙ q in
-        let o = others-here a h l d ok wd in
-        let o₁ = others-here a h₁ l₁ d ok₁ wd₁ in
-        let m = mine a h l c ok (one-c .0) wc in
-        let m₁ = mine a g₁ k₁ c ok₂ (other-c .0) wc₁ in
-        turned a h l (d ∷ c ∷ later) h l (c ∷ d ∷ later)
-        (skip a h l d (c ∷ later) h l (c ∷ d ∷ later) wd
-        (turned a h l (c ∷ d ∷ later) g₁ k₁ (c ∷ later)
-        (same-mine a h l g₁ k₁ c (d ∷ later) later (sym (o .next)) wc wc₁ m m₁
-        (skip a h₁ l₁ d later (nextHolders g₁ k₁ c) (nextLink k₁ c) later wd₁
-        (afterwards a (o₁ .next ∙ next-mine a h l g₁ k₁ c (sym (o .next)) m m₁))))))
-
-    swap-second : (a : ℕ) → eqb s a ≡ false → eqb t a ≡ true → SameFrom a h l (c ∷ d ∷ later) h l (d ∷ c ∷ later)
-    swap-second a p q =
-        let wc = concerns-c a ∙ p in
-        let wc₁ = concerns-c₁ a ∙ p in
-        let wd = concerns-d a ∙ q in
-        let wd₁ = concerns-d₁ a ∙ q in
-        let o = others-here a h l c ok wc in
-        let o₁ = others-here a g₁ k₁ c ok₂ wc₁ in
-        let m = mine a h₁ l₁ d ok₁ (one-d .0) wd₁ in
-        let m₁ = mine a h l d ok (other-d .0) wd in
-        skip a h l c (d ∷ later) h l (d ∷ c ∷ later) wc
-        (same-mine a h₁ l₁ h l d later (c ∷ later) (o .next) wd₁ wd m m₁
-        (turned a g₁ k₁ (c ∷ later) (nextHolders h₁ l₁ d) (nextLink l₁ d) later
-        (skip a g₁ k₁ c later (nextHolders h₁ l₁ d) (nextLink l₁ d) later wc₁
-        (turned a (nextHolders h₁ l₁ d) (nextLink l₁ d) later (nextHolders g₁ k₁ c) (nextLink k₁ c) later
-        (afterwards a (next-mine a h₁ l₁ h l d (o .next) m m₁ ∙ sym (o₁ .next)))))))
-
-    swap-neither : (a : ℕ) → eqb s a ≡ false → eqb t a ≡ false → SameFrom a h l (c ∷ d ∷ later) h l (d ∷ c ∷ later)
-    swap-neither a p q =
-        let wc = concerns-c a ∙ p in
-        let wc₁ = concerns-c₁ a ∙ p in
-        let wd = concerns-d a ∙ q in
-        let wd₁ = concerns-d₁ a ∙ q in
-        let same =
-        others-here a h₁ l₁ d ok₁ wd₁ .next
-        ∙ others-here a h l c ok wc .next
-        ∙ sym (others-here a g₁ k₁ c ok₂ wc₁ .next ∙ others-here a h l d ok wd .next)
-        in
-        skip a h l c (d ∷ later) h l (d ∷ c ∷ later) wc
-        (skip a h₁ l₁ d later h l (d ∷ c ∷ later) wd₁
-        (turned a h l (d ∷ c ∷ later) (nextHolders h₁ l₁ d) (nextLink l₁ d) later
-        (skip a h l d (c ∷ later) (nextHolders h₁ l₁ d) (nextLink l₁ d) later wd
-        (skip a g₁ k₁ c later (nextHolders h₁ l₁ d) (nextLink l₁ d) later wc₁
-        (turned a (nextHolders h₁ l₁ d) (nextLink l₁ d) later (nextHolders g₁ k₁ c) (nextLink k₁ c) later (afterwards a same))))))
-
-    swap-here : (a : ℕ) → SameFrom a h l (c ∷ d ∷ later) h l (d ∷ c ∷ later)
-    swap-here a =
+        → Unhindered (numberAt x c)
+        → Unhindered (numberAt (next x c) d)
+        → Unhindered (numberAt x d)
+        → Unhindered (numberAt (next x d) c)
+        → Alike a (next (next x c) d) (next (next x d) c)
+    alike-swapped a uc ud vd vc =
         by-test (eqb s a)
-        (λ p. swap-first a p (ne-eqb t a (λ e. eqb-false s t differ (eqb-true s a p ∙ sym e))))
-        (λ p. by-test (eqb t a) (λ q. swap-second a p q) (λ q. swap-neither a p q))
+        (λ p.
+        let q = ne-eqb t a (λ e. eqb-false s t differ (eqb-true s a p ∙ sym e)) in
+        alike-other a (next x c) (next (next x d) c) d sound-c (ap (concerns a) d-is ∙ q)
+        (alike-mine a x (next x d) c (ap (concerns a) c-is ∙ p) (ap (concerns a) c-second ∙ p)
+        (mine a (x .known .holders) (x .link) c ok uc (ap (concerns a) c-is ∙ p))
+        (mine a (next x d .known .holders) (next x d .link) c sound-d vc (ap (concerns a) c-second ∙ p))
+        (turned a (next x d) x (alike-other a x x d ok (ap (concerns a) d-first ∙ q) (alike-itself a x)))))
+        (λ p.
+        let skip-c = alike-other a x x c ok (ap (concerns a) c-is ∙ p) (alike-itself a x) in
+        turned a (next (next x d) c) (next (next x c) d)
+        (alike-other a (next x d) (next (next x c) d) c sound-d (ap (concerns a) c-second ∙ p)
+        (turned a (next (next x c) d) (next x d)
+        (by-test (eqb t a)
+        (λ q.
+        alike-mine a (next x c) x d (ap (concerns a) d-is ∙ q) (ap (concerns a) d-first ∙ q)
+        (mine a (next x c .known .holders) (next x c .link) d sound-c ud (ap (concerns a) d-is ∙ q))
+        (mine a (x .known .holders) (x .link) d ok vd (ap (concerns a) d-first ∙ q))
+        skip-c)
+        (λ q.
+        alike-other a (next x c) (next x d) d sound-c (ap (concerns a) d-is ∙ q)
+        (turned a (next x d) (next x c) (alike-other a x (next x c) d ok (ap (concerns a) d-first ∙ q) (turned a (next x c) x skip-c))))))))
 
--- The same call before two lists of calls.
-same-before :
-    (a : ℕ) (h : Holders) (l : Link) (x : List ℕ) (cs ds : List (List ℕ))
-    → SameFrom a (nextHolders h l x) (nextLink l x) cs (nextHolders h l x) (nextLink l x) ds
-    → SameFrom a h l (x ∷ cs) h l (x ∷ ds)
-unfolding run after past holdersAfter
-same-before a h l x cs ds s =
-    by-test (inPast a h (exchange x (step l x)))
-    (λ p.
-    record {
-      same-calls = rw p (ap (λ (y : List (List ℕ)). x ∷ y) (s .same-calls));
-      same-sights = rw p (ap (λ (y : List Sight). sight a (exchange x (step l x)) ∷ y) (s .same-sights));
-      same-own = s .same-own;
-    })
-    (λ p. record { same-calls = rw p (s .same-calls); same-sights = rw p (s .same-sights); same-own = s .same-own })
-
+-- And so it does after any calls before them and any behind them.
 swap-after :
-    (h : Holders) (l : Link) (before : List (List ℕ)) (c d : List ℕ) (later : List (List ℕ)) (s t : ℕ)
-    → Sound h l
-    → whose (holdersAfter h (run l before)) c ≡ belongsTo s
-    → whose (holdersAfter h (run l (before ++ (c ∷ [])))) d ≡ belongsTo t
+    (x : Moment) (before : List (List ℕ)) (c d : List ℕ) (later : List (List ℕ)) (s t : ℕ)
+    → SoundAt x
+    → whoseAt (ends x before) c ≡ belongsTo s
+    → whoseAt (ends x (before ++ (c ∷ []))) d ≡ belongsTo t
     → eqb s t ≡ false
-    → unhindered (run l (before ++ (c ∷ d ∷ later))) ≡ true
-    → unhindered (run l (before ++ (d ∷ c ∷ later))) ≡ true
+    → unhindered (run (x .link) (before ++ (c ∷ d ∷ later))) ≡ true
+    → unhindered (run (x .link) (before ++ (d ∷ c ∷ later))) ≡ true
     → (a : ℕ)
-    → SameFrom a h l (before ++ (c ∷ d ∷ later)) h l (before ++ (d ∷ c ∷ later))
-unfolding run holdersAfter
-swap-after h l [] c d later s t ok c-is d-is differ one other a = swap-here h l c d later s t ok c-is d-is differ one other a
-swap-after h l (x ∷ xs) c d later s t ok c-is d-is differ one other a =
-    same-before a h l x (xs ++ (c ∷ d ∷ later)) (xs ++ (d ∷ c ∷ later))
-    (swap-after (nextHolders h l x) (nextLink l x) xs c d later s t (sound-step h l x ok) c-is d-is differ
-    (first-unhindered l x (xs ++ (c ∷ d ∷ later)) one .1) (first-unhindered l x (xs ++ (d ∷ c ∷ later)) other .1) a)
+    → Alike a (ends x (before ++ (c ∷ d ∷ later))) (ends x (before ++ (d ∷ c ∷ later)))
+unfolding run after history
+swap-after x [] c d later s t ok c-is d-is differ one other a =
+    let uc = first-unhindered (x .link) c (d ∷ later) one in
+    let ud = first-unhindered (next x c .link) d later (uc .1) in
+    let vd = first-unhindered (x .link) d (c ∷ later) other in
+    let vc = first-unhindered (next x d .link) c later (vd .1) in
+    let there = sound-next (x .known) (x .link) c ok in
+    let also = sound-next (x .known) (x .link) d ok in
+    alike-later a (next (next x c) d) (next (next x d) c) later
+    (sound-next (next x c .known) (next x c .link) d there)
+    (sound-next (next x d .known) (next x d .link) c also)
+    (ud .1)
+    (vc .1)
+    (alike-swapped x c d s t ok c-is d-is differ a (uc .0) (ud .0) (vd .0) (vc .0))
+swap-after x (b ∷ before) c d later s t ok c-is d-is differ one other a =
+    swap-after (next x b) before c d later s t (sound-next (x .known) (x .link) b ok) c-is d-is differ
+    (first-unhindered (x .link) b (before ++ (c ∷ d ∷ later)) one .1)
+    (first-unhindered (x .link) b (before ++ (d ∷ c ∷ later)) other .1)
+    a
 
-pub swap : Swap
-swap =
+abbrev atFirst : Moment
+atFirst = record { known = nothingYet; link = new }
+
+sound-at-first : SoundAt atFirst
+unfolding nothingYet
+sound-at-first = sound-new
+
+pub swap :
+    (before : List (List ℕ)) (c d : List ℕ) (later : List (List ℕ)) (s t : ℕ)
+    → whoseAfter (run new before) c ≡ belongsTo s
+    → whoseAfter (run new (before ++ (c ∷ []))) d ≡ belongsTo t
+    → eqb s t ≡ false
+    → unhindered (run new (before ++ (c ∷ d ∷ later))) ≡ true
+    → unhindered (run new (before ++ (d ∷ c ∷ later))) ≡ true
+    → (a : ℕ)
+    → SeesTheSame a
+    (run new (before ++ (c ∷ d ∷ later)))
+    (after new (before ++ (c ∷ d ∷ later)) .receipts)
+    (run new (before ++ (d ∷ c ∷ later)))
+    (after new (before ++ (d ∷ c ∷ later)) .receipts)
+swap before c d later s t c-is d-is differ one other a =
+    let same = swap-after atFirst before c d later s t sound-at-first c-is d-is differ one other a in
+    let cs : List (List ℕ) = before ++ (c ∷ d ∷ later) in
+    let ds : List (List ℕ) = before ++ (d ∷ c ∷ later) in
     record {
-      each =
-          λ before c d later s t c-is d-is differ one other a.
-          let same = swap-after nobody new before c d later s t sound-new c-is d-is differ one other a in
-          let cs : List (List ℕ) = before ++ (c ∷ d ∷ later) in
-          let ds : List (List ℕ) = before ++ (d ∷ c ∷ later) in
-          record {
-            sameCalls = same .same-calls;
-            sameSights = same .same-sights;
-            sameReceipts = held-own a cs ∙ ap (λ (o : Own). takenFrom 0 (o .receipts)) (same .same-own) ∙ sym (held-own a ds);
-          };
+      sameCalls = same .same-calls;
+      sameSights = same .same-sights;
+      sameReceipts = held-own a cs ∙ ap (λ (o : Own). takenFrom 0 (o .receipts)) (same .same-own) ∙ sym (held-own a ds);
     }

@@ -11,8 +11,8 @@ use Rattle.llc_rule.specs.Messages.{Message}
 use Rattle.llc_rule.specs.Link.{Link, new}
 use Rattle.llc_rule.specs.Rule.{Own}
 use Rattle.llc_rule.specs.Runs.{run, after}
-use Rattle.llc_rule.specs.Past.{Holders, nobody, holdersAfter}
-use Rattle.llc_rule.specs.Claim.{underWay, OneUnderWay}
+use Rattle.llc_rule.specs.Past.{Holders, holdersAfter}
+use Rattle.llc_rule.specs.Seen.{keptByRule, unhindered, underWay}
 use Rattle.llc_rule.specs.Sound.{oneAhead, ofAddress}
 use Rattle.llc_rule.proofs.Lists.{by-test, keep-yes, keep-no, neither}
 use Rattle.llc_rule.proofs.Own.{own}
@@ -38,20 +38,15 @@ at-most-one (m ∷ ms) e =
     (λ t. omega (arith, rest, ap length (keep-yes isSubmitted m ms t)))
     (λ t. omega (arith, rest, ap length (keep-no isSubmitted m ms t)))
 
-on-link : (cs : List (List ℕ)) (a : ℕ) → underWay (ofAddress a (after new cs .acknowledged)) ≤ 1
-on-link cs a = at-most-one (ofAddress a (after new cs .acknowledged)) (sound-run cs .ahead a)
+pub one-among-held : (cs : List (List ℕ)) (a : ℕ) → underWay (ofAddress a (after new cs .acknowledged)) ≤ 1
+one-among-held cs a = at-most-one (ofAddress a (after new cs .acknowledged)) (sound-run cs .ahead a)
 
 own-acknowledged : (a : ℕ) (h : Holders) (l : Link) → ofAddress a (l .acknowledged) ≡ own a h l .acknowledged
 unfolding own
 own-acknowledged a h l = refl
 
-pub one-under-way : OneUnderWay
-one-under-way =
-    record {
-      byRule =
-          λ cs u a.
-          subst (λ (ms : List Message). underWay ms ≤ 1)
-          (own-acknowledged a (holdersAfter nobody (run new cs)) (after new cs) ∙ ap (λ (o : Own). o .acknowledged) (has-own a cs u))
-          (on-link cs a);
-      onLink = on-link;
-    }
+pub one-under-way : (cs : List (List ℕ)) → unhindered (run new cs) ≡ true → (a : ℕ) → underWay (keptByRule a (run new cs) .acknowledged) ≤ 1
+one-under-way cs u a =
+    subst (λ (ms : List Message). underWay ms ≤ 1)
+    (own-acknowledged a (holdersAfter (run new cs)) (after new cs) ∙ ap (λ (o : Own). o .acknowledged) (has-own a cs u))
+    (one-among-held cs a)

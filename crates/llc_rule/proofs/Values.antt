@@ -2,17 +2,16 @@
 use Prim.Native.Nat.{ℕ, zero, suc, _+_, _^_, _≤_, _<_}
 use native.Mathlib.Nat.{pow-succ', pow-le-pow-right}
 use native.Mathlib.Omega.{arith}
-use mathlib.Core.Bool.{Bool}
 use mathlib.Core.List.{List, [], _∷_}
 use lib.Arith.{digits-lt}
 use lib.Dec.{eqb}
 use lib.ListN.{length, getD, take, drop, length-take}
 use Rattle.bits.specs.Bits.{bits, AllBits}
 use Rattle.bits.proofs.Laws as Bits
-use Rattle.questions.specs.Outcome.{Outcome, accepted, refused, ask}
-use Rattle.llc_rule.specs.Calls.{Call, start, tickStart, tickEnd, dataRequest, unitdataRequest, frame, report, release, Request, Frame, fromBytes, numberAt, countAt, bitsAt, requestIn, frameIn, filledFrom, filled, Tag, tag21, tag22, tag23, tag24, tag25, tag26, tag27, tag28, unknown, tagOf, inner, parsed}
+use Rattle.questions.specs.Outcome.{Outcome, accepted, refused}
+use Rattle.questions.proofs.Asked.{by-question}
+use Rattle.llc_rule.specs.Calls.{Call, start, tickStart, tickEnd, request, frame, byReceipt, Request, Frame, fromBytes, numberAt, countAt, bitsAt, requestIn, frameIn, filledFrom, filled, Tag, tag21, tag22, tag23, tag24, tag25, tag26, tag27, tag28, unknown, tagOf, inner, parsed}
 use Rattle.llc_rule.specs.Sound.{All}
-use Rattle.llc_rule.proofs.Held.{asked}
 
 -- A number that one byte holds.
 abbrev pub IsByte : ℕ → Type 0
@@ -65,11 +64,9 @@ abbrev pub CallFits : Call → Type 0
 CallFits (start carrier t251) = carrier < 2 ^ 16
 CallFits (tickStart time) = Unit {0}
 CallFits tickEnd = Unit {0}
-CallFits (dataRequest r) = RequestFits r
-CallFits (unitdataRequest r) = RequestFits r
+CallFits (request s r) = RequestFits r
 CallFits (frame f) = FrameFits f
-CallFits (report receipt how) = Unit {0}
-CallFits (release receipt) = Unit {0}
+CallFits (byReceipt i a) = Unit {0}
 
 abbrev pub CallFitsIn : Outcome Call → Type 0
 CallFitsIn (accepted c) = CallFits c
@@ -102,23 +99,20 @@ frame-fits v a =
       pdu = bits-at v 14;
     }
 
-ask-fits : (n : ℕ) (b : Bool) (o : Outcome Call) → CallFitsIn o → CallFitsIn (ask n b o)
-ask-fits n b o f = asked CallFitsIn n b o tt (λ e. f)
-
 inner-fits : (t : Tag) (v : List ℕ) → All IsByte v → CallFitsIn (inner t v)
 unfolding inner
-inner-fits tag21 v a = ask-fits 2 (eqb (length v) 4) _ (number-below v 0 2 a)
-inner-fits tag22 v a = ask-fits 2 (eqb (length v) 5) _ tt
-inner-fits tag23 v a = ask-fits 2 (eqb (length v) 0) _ tt
-inner-fits tag24 v a = ask-fits 2 (filledFrom v 22) _ (request-fits v a)
-inner-fits tag25 v a = ask-fits 2 (filledFrom v 22) _ (request-fits v a)
-inner-fits tag26 v a = ask-fits 2 (filledFrom v 14) _ (frame-fits v a)
-inner-fits tag27 v a = ask-fits 2 (eqb (length v) 2) _ tt
-inner-fits tag28 v a = ask-fits 2 (eqb (length v) 1) _ tt
+inner-fits tag21 v a = by-question CallFitsIn 2 (eqb (length v) 4) tt (λ e. number-below v 0 2 a)
+inner-fits tag22 v a = by-question CallFitsIn 2 (eqb (length v) 5) tt (λ e. tt)
+inner-fits tag23 v a = by-question CallFitsIn 2 (eqb (length v) 0) tt (λ e. tt)
+inner-fits tag24 v a = by-question CallFitsIn 2 (filledFrom v 22) tt (λ e. request-fits v a)
+inner-fits tag25 v a = by-question CallFitsIn 2 (filledFrom v 22) tt (λ e. request-fits v a)
+inner-fits tag26 v a = by-question CallFitsIn 2 (filledFrom v 14) tt (λ e. frame-fits v a)
+inner-fits tag27 v a = by-question CallFitsIn 2 (eqb (length v) 2) tt (λ e. tt)
+inner-fits tag28 v a = by-question CallFitsIn 2 (eqb (length v) 1) tt (λ e. tt)
 inner-fits unknown v a = tt
 
 -- The values of any call.
 pub parsed-fits : (bytes : List ℕ) → All IsByte bytes → CallFitsIn (parsed bytes)
 unfolding parsed
 parsed-fits bytes a =
-    ask-fits 2 (filled bytes) _ (inner-fits (tagOf (getD bytes 0 0)) (drop 3 bytes) (all-drop IsByte 3 bytes a))
+    by-question CallFitsIn 2 (filled bytes) tt (λ e. inner-fits (tagOf (getD bytes 0 0)) (drop 3 bytes) (all-drop IsByte 3 bytes a))

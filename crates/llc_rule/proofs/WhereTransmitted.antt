@@ -3,7 +3,6 @@ use Prim.Native.Nat.{ℕ}
 use mathlib.Core.Path.{_≡_, _∙_, refl, ap, subst}
 use mathlib.Core.Bool.{true}
 use mathlib.Core.List.{List, [], _∷_}
-use mathlib.Core.Option.{Option}
 use lib.Dec.{eqb}
 use Rattle.tx_receipt.specs.States.{is}
 use Rattle.tx_receipt.specs.Marks.{acknowledged, allowed}
@@ -13,10 +12,10 @@ use Rattle.llc_rule.specs.Messages.{Message, Place, free, taken, placeAt
 use Rattle.llc_rule.specs.Link.{new}
 use Rattle.llc_rule.specs.Rule.{Own}
 use Rattle.llc_rule.specs.Runs.{run, after}
-use Rattle.llc_rule.specs.Past.{Holders, nobody, holdersAfter, isHolder}
-use Rattle.llc_rule.specs.Claim.{MarkedWhereTransmitted, WhereTransmitted}
-use Rattle.llc_rule.specs.Sound.{All, expects, Owned, Waiting, ofAddress, Sound}
-use Rattle.llc_rule.proofs.Lists.{all-map, by-test, keep-yes, keep-no}
+use Rattle.llc_rule.specs.Past.{Holders, holdersAfter, isHolder}
+use Rattle.llc_rule.specs.Seen.{keptByRule, unhindered, MarkedWhereTransmitted}
+use Rattle.llc_rule.specs.Sound.{All, expects, Owned, Waiting, ofAddress}
+use Rattle.llc_rule.proofs.Lists.{all-map, by-test}
 use Rattle.llc_rule.proofs.Own.{own, blank, place-own}
 use Rattle.llc_rule.proofs.SoundCalls.{sound-run}
 use Rattle.llc_rule.proofs.Demand3.{has-own}
@@ -58,19 +57,21 @@ all-own a h ps (m ∷ ms) o w =
 own-marked :
     (a : ℕ) (cs : List (List ℕ))
     → All
-    (MarkedWhereTransmitted (own a (holdersAfter nobody (run new cs)) (after new cs) .receipts))
-    (own a (holdersAfter nobody (run new cs)) (after new cs) .acknowledged)
+    (MarkedWhereTransmitted (own a (holdersAfter (run new cs)) (after new cs) .receipts))
+    (own a (holdersAfter (run new cs)) (after new cs) .acknowledged)
 unfolding own
 own-marked a cs =
-    all-own a (holdersAfter nobody (run new cs)) (after new cs .receipts) (after new cs .acknowledged)
+    all-own a (holdersAfter (run new cs)) (after new cs .receipts) (after new cs .acknowledged)
     (sound-run cs .owned)
     (sound-run cs .waiting)
 
-pub where-transmitted : WhereTransmitted
-where-transmitted =
-    record {
-      byRule =
-          λ cs u a.
-          subst (λ (o : Own). All (MarkedWhereTransmitted (o .receipts)) (o .acknowledged)) (has-own a cs u) (own-marked a cs);
-      onLink = λ cs. all-map _ _ (after new cs .acknowledged) (held (after new cs .receipts)) (sound-run cs .waiting);
-    }
+pub where-transmitted : (cs : List (List ℕ)) → All (MarkedWhereTransmitted (after new cs .receipts)) (after new cs .acknowledged)
+where-transmitted cs = all-map _ _ (after new cs .acknowledged) (held (after new cs .receipts)) (sound-run cs .waiting)
+
+pub where-transmitted-by-rule :
+    (cs : List (List ℕ))
+    → unhindered (run new cs) ≡ true
+    → (a : ℕ)
+    → All (MarkedWhereTransmitted (keptByRule a (run new cs) .receipts)) (keptByRule a (run new cs) .acknowledged)
+where-transmitted-by-rule cs u a =
+    subst (λ (o : Own). All (MarkedWhereTransmitted (o .receipts)) (o .acknowledged)) (has-own a cs u) (own-marked a cs)

@@ -1,7 +1,7 @@
 -- Document 01, "Calls and records", the calls: bytes taken apart, with question 2 (do the outer length and, for a known tag,
 -- the inner ones fill the call, spare bits zero?) and question 3 (is the tag known?).
 use Prim.Native.Nat.{ℕ, zero, suc, _+_, _*_, _/_, _%_, _^_}
-use mathlib.Core.Bool.{Bool, cond, _&&_}
+use mathlib.Core.Bool.{Bool, true, false, cond, _&&_}
 use mathlib.Core.List.{List, [], _∷_}
 use lib.Dec.{eqb, leb}
 use lib.ListN.{length, getD, take, drop}
@@ -44,17 +44,33 @@ pub record Frame : Type 0 where
   pub block : List ℕ
   pub pdu : List ℕ
 
--- "21 start (carrier 2 bytes, T251 2); 22 tick start (h 2, m, f, t); 23 tick end; .. 27 report (receipt, 1 transmitted or 2
--- discarded); 28 release (receipt)". The values are as they were given, in range or not.
+-- The service that a request asks for: "24 data request and 25 unitdata request".
+pub data Service : Type 0 where
+  tlData tlUnitdata : Service
+
+-- What a call does by receipt: "27 report (receipt, 1 transmitted or 2 discarded); 28 release (receipt)".
+pub data Action : Type 0 where
+  report : ℕ → Action
+  release : Action
+
+-- "21 start (carrier 2 bytes, T251 2); 22 tick start (h 2, m, f, t); 23 tick end", a request, a frame, and a call by receipt. The
+-- values are as they were given, in range or not.
 pub data Call : Type 0 where
   start : ℕ → ℕ → Call
   tickStart : TdmaTime → Call
   tickEnd : Call
-  dataRequest : Request → Call
-  unitdataRequest : Request → Call
+  request : Service → Request → Call
   frame : Frame → Call
-  report : ℕ → ℕ → Call
-  release : ℕ → Call
+  byReceipt : ℕ → Action → Call
+
+-- "Is this a start?"
+abbrev pub isStart : Call → Bool
+isStart (start carrier t251) = true
+isStart (tickStart time) = false
+isStart tickEnd = false
+isStart (request s r) = false
+isStart (frame f) = false
+isStart (byReceipt i a) = false
 
 -- The number in n bytes from a place on.
 abbrev pub numberAt : List ℕ → ℕ → ℕ → ℕ
@@ -132,11 +148,11 @@ unfoldable pub inner : Tag → List ℕ → Outcome Call
 inner tag21 v = ask 2 (eqb (length v) 4) (accepted (start (numberAt v 0 2) (numberAt v 2 2)))
 inner tag22 v = ask 2 (eqb (length v) 5) (accepted (tickStart (timeIn v)))
 inner tag23 v = ask 2 (eqb (length v) 0) (accepted tickEnd)
-inner tag24 v = ask 2 (filledFrom v 22) (accepted (dataRequest (requestIn v)))
-inner tag25 v = ask 2 (filledFrom v 22) (accepted (unitdataRequest (requestIn v)))
+inner tag24 v = ask 2 (filledFrom v 22) (accepted (request tlData (requestIn v)))
+inner tag25 v = ask 2 (filledFrom v 22) (accepted (request tlUnitdata (requestIn v)))
 inner tag26 v = ask 2 (filledFrom v 14) (accepted (frame (frameIn v)))
-inner tag27 v = ask 2 (eqb (length v) 2) (accepted (report (getD v 0 0) (getD v 1 0)))
-inner tag28 v = ask 2 (eqb (length v) 1) (accepted (release (getD v 0 0)))
+inner tag27 v = ask 2 (eqb (length v) 2) (accepted (byReceipt (getD v 0 0) (report (getD v 1 0))))
+inner tag28 v = ask 2 (eqb (length v) 1) (accepted (byReceipt (getD v 0 0) release))
 inner unknown v = refused 3
 
 -- "All tagged: one-byte tag, two-byte length, value; big-endian." The outer length of question 2.

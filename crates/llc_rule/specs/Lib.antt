@@ -11,7 +11,8 @@ pub mod Step
 pub mod Rule
 pub mod Runs
 pub mod Past
-pub mod Claim
 pub mod Sound
+pub mod Seen
 pub mod Sendings
+pub mod Claim
 pub mod Sizes

@@ -1,4 +1,5 @@
--- Document 01's lengths of frames, store and output: each number stands here once, and everything else says its name.
+-- Document 01's lengths of received frames, of the store and of the output: each number stands here once, and everything else says
+-- its name. The longest SDU, and with it the longest frame that is sent, stands in llc_pdus specs/Writes.antt.
 use Prim.Native.Nat.{ℕ, _*_}
 
 -- "Frame up to 2,633": the most bits of a frame that comes in.
@@ -15,6 +16,7 @@ placeBytes = 336
 abbrev pub placeBits : ℕ
 placeBits = 8 * placeBytes
 
+-- "Is the store 32,256 bytes"
 abbrev pub storeBytes : ℕ
 storeBytes = storePlaces * placeBytes
 

@@ -117,6 +117,10 @@ marked k (taken r) = taken (Marks.marked k r .receipt)
 abbrev pub mark : Mark → ℕ → List Place → List Place
 mark k i l = set l i (marked k (placeAt l i))
 
+-- The mark of a report: "1 transmitted or 2 discarded".
+abbrev pub markOf : ℕ → Mark
+markOf how = cond (eqb how 1) Marks.transmitted Marks.discarded
+
 -- "Whose receipt is Discarded or at least Transmitted."
 abbrev pub reported : TxReceipt → Bool
 reported r = is Discarded r || atLeast Transmitted r

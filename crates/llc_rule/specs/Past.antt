@@ -1,5 +1,5 @@
--- Document 01, "One-address rule": who holds a receipt, whose a call is, an address's past, and what it has seen. Of the answers
--- only acceptance, for holding, and number 1 are used.
+-- Document 01, "One-address rule": whom a call concerns and what it does to holding, an address's past, and what it has seen. Of
+-- the answers only acceptance, for holding, and number 1 are used.
 use Prim.Native.Nat.{ℕ, suc}
 use mathlib.Core.Bool.{Bool, true, false, cond, not, _&&_}
 use mathlib.Core.List.{List, [], _∷_, _++_}
@@ -7,10 +7,55 @@ use mathlib.Core.Option.{Option, none, some}
 use lib.Dec.{eqb}
 use Rattle.questions.specs.Outcome.{Outcome, accepted, refused}
 use Rattle.llc_rule.specs.Lists.{keep}
-use Rattle.llc_rule.specs.Calls.{Call, start, tickStart, tickEnd, dataRequest, unitdataRequest, frame, report, release, parsed}
+use Rattle.llc_rule.specs.Calls.{Call, start, tickStart, tickEnd, request, frame, byReceipt, Action, report, release, Request, parsed}
 use Rattle.llc_rule.specs.Records.{Record, ssiOf}
 use Rattle.llc_rule.specs.Messages.{Place, isFree}
 use Rattle.llc_rule.specs.Runs.{Exchange}
+
+-- What a call is about ------------------------------------------------------------------------------------------------------
+
+-- Whom a call concerns: everybody, an SSI, the holder of a receipt, or none.
+pub data Whom : Type 0 where
+  everybody : Whom
+  address : ℕ → Whom
+  holderOf : ℕ → Whom
+  noOne : Whom
+
+-- What a call does to holding where it is accepted: it empties all, takes a receipt for a request, frees one, or does nothing.
+pub data Holding : Type 0 where
+  empties : Holding
+  takes : Request → Holding
+  frees : ℕ → Holding
+  stays : Holding
+
+pub record About : Type 0 where
+  pub whom : Whom
+  pub toHolding : Holding
+
+abbrev pub actionHolding : ℕ → Action → Holding
+actionHolding i (report how) = stays
+actionHolding i release = frees i
+
+-- "The starts, tick starts, tick ends" are in every past. "A request or frame belongs to its SSI. A report, a release and any other
+-- call by receipt belongs to the address whose request holds that receipt". "A request holds its receipt from its acceptance to
+-- an accepted release or start."
+abbrev pub aboutCall : Call → About
+aboutCall (start carrier t251) = record { whom = everybody; toHolding = empties }
+aboutCall (tickStart time) = record { whom = everybody; toHolding = stays }
+aboutCall tickEnd = record { whom = everybody; toHolding = stays }
+aboutCall (request s r) = record { whom = address (r .ssi); toHolding = takes r }
+aboutCall (frame f) = record { whom = address (f .ssi); toHolding = stays }
+aboutCall (byReceipt i a) = record { whom = holderOf i; toHolding = actionHolding i a }
+
+-- "Of the calls that pass questions 2 and 3 .. Every other call belongs to none."
+abbrev pub aboutRead : Outcome Call → About
+aboutRead (refused n) = record { whom = noOne; toHolding = stays }
+aboutRead (accepted c) = aboutCall c
+
+unfoldable pub about : List ℕ → About
+about bytes = aboutRead (parsed bytes)
+
+-- Who holds what ------------------------------------------------------------------------------------------------------------
 
 -- Who holds each receipt: the SSI of a request, or nobody.
 abbrev pub Holders : Type 0
@@ -22,24 +67,20 @@ nobody i = none
 abbrev pub holding : ℕ → Option ℕ → Holders → Holders
 holding i who h j = cond (eqb j i) who (h j)
 
--- "A request holds its receipt from its acceptance to an accepted release or start."
-abbrev pub heldAfter : Call → Holders → Holders
-heldAfter (start carrier t251) h = nobody
-heldAfter (tickStart time) h = h
-heldAfter tickEnd h = h
-heldAfter (dataRequest r) h = holding (r .receipt) (some (r .ssi)) h
-heldAfter (unitdataRequest r) h = holding (r .receipt) (some (r .ssi)) h
-heldAfter (frame f) h = h
-heldAfter (report receipt how) h = h
-heldAfter (release receipt) h = holding receipt none h
+abbrev pub heldAfter : Holding → Holders → Holders
+heldAfter empties h = nobody
+heldAfter (takes r) h = holding (r .receipt) (some (r .ssi)) h
+heldAfter (frees i) h = holding i none h
+heldAfter stays h = h
 
-abbrev pub heldAfterCall : Outcome Call → Holders → Holders
-heldAfterCall (refused n) h = h
-heldAfterCall (accepted c) h = heldAfter c h
+-- What an exchange does to holding: an accepted call has number 0.
+unfoldable pub doneTo : Exchange → Holding
+doneTo e = cond (eqb (e .number) 0) (about (e .call) .toHolding) stays
 
--- Who holds each receipt after a call with its answer: an accepted call has number 0.
 unfoldable pub holders : Exchange → Holders → Holders
-holders e h = cond (eqb (e .number) 0) (heldAfterCall (parsed (e .call)) h) h
+holders e h = heldAfter (doneTo e) h
+
+-- Whose a call is -----------------------------------------------------------------------------------------------------------
 
 -- Whose a call is: a start or a tick is in every past, another call belongs to one address or to none.
 pub data Whose : Type 0 where
@@ -51,31 +92,23 @@ abbrev pub holder's : Option ℕ → Whose
 holder's none = nobody's
 holder's (some a) = belongsTo a
 
--- "A request or frame belongs to its SSI. A report, a release and any other call by receipt belongs to the address whose
--- request holds that receipt, to none if it is free."
-abbrev pub whoseCall : Holders → Call → Whose
-whoseCall h (start carrier t251) = everybody's
-whoseCall h (tickStart time) = everybody's
-whoseCall h tickEnd = everybody's
-whoseCall h (dataRequest r) = belongsTo (r .ssi)
-whoseCall h (unitdataRequest r) = belongsTo (r .ssi)
-whoseCall h (frame f) = belongsTo (f .ssi)
-whoseCall h (report receipt how) = holder's (h receipt)
-whoseCall h (release receipt) = holder's (h receipt)
-
--- "Of the calls that pass questions 2 and 3 .. Every other call belongs to none."
-abbrev pub whoseIs : Holders → Outcome Call → Whose
-whoseIs h (refused n) = nobody's
-whoseIs h (accepted c) = whoseCall h c
+-- "To none if it is free."
+abbrev pub whoseOf : Holders → Whom → Whose
+whoseOf h everybody = everybody's
+whoseOf h (address a) = belongsTo a
+whoseOf h (holderOf i) = holder's (h i)
+whoseOf h noOne = nobody's
 
 unfoldable pub whose : Holders → List ℕ → Whose
-whose h bytes = whoseIs h (parsed bytes)
+whose h bytes = whoseOf h (about bytes .whom)
 
 -- Is a call of somebody in the past of address a?
 abbrev pub concerns : ℕ → Whose → Bool
 concerns a everybody's = true
 concerns a nobody's = false
 concerns a (belongsTo b) = eqb b a
+
+-- Histories -----------------------------------------------------------------------------------------------------------------
 
 -- "An address's past is the starts, tick starts, tick ends and its own calls, in order, less those that got number 1."
 abbrev pub leftOut : ℕ → Bool
@@ -84,20 +117,45 @@ leftOut n = eqb n 1
 unfoldable pub inPast : ℕ → Holders → Exchange → Bool
 inPast a h e = not (leftOut (e .number)) && concerns a (whose h (e .call))
 
-unfoldable pub past : ℕ → Holders → List Exchange → List Exchange
-past a h [] = []
-past a h (e ∷ es) = cond (inPast a h e) (e ∷ past a (holders e h) es) (past a (holders e h) es)
+-- What is known of a run at a moment: who holds each receipt, each address's past, and the records with its SSI that calls
+-- outside its past gave.
+pub record History : Type 0 where
+  pub holders : Holders
+  pub past : ℕ → List Exchange
+  pub strays : ℕ → List Record
 
--- The records that calls outside its past give with its SSI.
-unfoldable pub strays : ℕ → Holders → List Exchange → List Record
-strays a h [] = []
-strays a h (e ∷ es) =
-    cond (inPast a h e) [] (keep (λ (r : Record). eqb (ssiOf r) a) (e .records)) ++ strays a (holders e h) es
+-- Before the first call.
+unfoldable pub nothingYet : History
+nothingYet = record { holders = nobody; past = λ a. []; strays = λ a. [] }
 
--- Who holds each receipt after a run.
-unfoldable pub holdersAfter : Holders → List Exchange → Holders
-holdersAfter h [] = h
-holdersAfter h (e ∷ es) = holdersAfter (holders e h) es
+-- After one more exchange.
+unfoldable pub andThen : Exchange → History → History
+andThen e k =
+    record {
+      holders = holders e (k .holders);
+      past = λ a. k .past a ++ cond (inPast a (k .holders) e) (e ∷ []) [];
+      strays =
+          λ a. k .strays a ++ cond (inPast a (k .holders) e) [] (keep (λ (r : Record). eqb (ssiOf r) a) (e .records));
+    }
+
+unfoldable pub history : History → List Exchange → History
+history k [] = k
+history k (e ∷ es) = history (andThen e k) es
+
+-- The history of a run, and its parts.
+abbrev pub historyOf : List Exchange → History
+historyOf es = history nothingYet es
+
+abbrev pub holdersAfter : List Exchange → Holders
+holdersAfter es = historyOf es .holders
+
+abbrev pub past : ℕ → List Exchange → List Exchange
+past a es = historyOf es .past a
+
+abbrev pub strays : ℕ → List Exchange → List Record
+strays a es = historyOf es .strays a
+
+-- What an address has seen --------------------------------------------------------------------------------------------------
 
 -- "It has seen, for each call of its past, the number and the records in order (of a tick end those with its SSI)".
 pub record Sight : Type 0 where
@@ -109,11 +167,9 @@ isTickEnd (refused n) = false
 isTickEnd (accepted (start carrier t251)) = false
 isTickEnd (accepted (tickStart time)) = false
 isTickEnd (accepted tickEnd) = true
-isTickEnd (accepted (dataRequest r)) = false
-isTickEnd (accepted (unitdataRequest r)) = false
+isTickEnd (accepted (request s r)) = false
 isTickEnd (accepted (frame f)) = false
-isTickEnd (accepted (report receipt how)) = false
-isTickEnd (accepted (release receipt)) = false
+isTickEnd (accepted (byReceipt i a)) = false
 
 unfoldable pub sight : ℕ → Exchange → Sight
 sight a e =

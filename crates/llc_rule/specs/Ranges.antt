@@ -7,7 +7,7 @@ use lib.ListN.{length}
 use Rattle.tdma_time.specs.Slots.{valid}
 use Rattle.llc_pdus.specs.Writes.{longest}
 use Rattle.llc_rule.specs.Limits.{longestFrame}
-use Rattle.llc_rule.specs.Calls.{Call, start, tickStart, tickEnd, dataRequest, unitdataRequest, frame, report, release, Request, Frame}
+use Rattle.llc_rule.specs.Calls.{Call, start, tickStart, tickEnd, request, frame, byReceipt, Action, report, release, Request, Frame}
 
 -- "Flags: 1 steal, 2 FCS, 4 mask present."
 abbrev pub steals : Request → Bool
@@ -41,12 +41,14 @@ requestInRange r =
 unfoldable pub frameInRange : Frame → Bool
 frameInRange f = isType (f .type) && leb (length (f .block)) 64 && leb (length (f .pdu)) longestFrame
 
+abbrev pub actionInRange : Action → Bool
+actionInRange (report how) = eqb how 1 || eqb how 2
+actionInRange release = true
+
 unfoldable pub inRange : Call → Bool
 inRange (start carrier t251) = not (eqb t251 0)
 inRange (tickStart time) = valid time
 inRange tickEnd = true
-inRange (dataRequest r) = requestInRange r
-inRange (unitdataRequest r) = requestInRange r
+inRange (request s r) = requestInRange r
 inRange (frame f) = frameInRange f
-inRange (report receipt how) = isReceipt receipt && (eqb how 1 || eqb how 2)
-inRange (release receipt) = isReceipt receipt
+inRange (byReceipt i a) = isReceipt i && actionInRange a

@@ -50,6 +50,14 @@ pub data Record : Type 0 where
   dataUp : Indication → Record
   unitdataUp : Indication → Record
 
+-- The number of its kind, its field 01.
+abbrev pub kind : Record → ℕ
+kind (acknowledged s) = 1
+kind (reply r) = 2
+kind (unacknowledged s) = 3
+kind (dataUp i) = 4
+kind (unitdataUp i) = 5
+
 -- The SSI of a record, its field 02.
 abbrev pub ssiOf : Record → ℕ
 ssiOf (acknowledged s) = s .ssi

@@ -16,11 +16,11 @@ use Rattle.tx_receipt.specs.declared.TxState.the-variants.{Pending}
 use Rattle.llc_pdus.specs.declared.Pdu.{Pdu}
 use Rattle.llc_pdus.specs.declared.Pdu.the-variants.{BlAdata, BlData, BlUdata, BlAck}
 use Rattle.llc_rule.specs.Lists.{any, Found, nothing, first, find, others, Visit, walk}
-use Rattle.llc_rule.specs.Calls.{Call, start, tickStart, tickEnd, dataRequest, unitdataRequest, frame, report, release, Request, Frame, parsed}
+use Rattle.llc_rule.specs.Calls.{Call, start, tickStart, tickEnd, request, frame, byReceipt, Service, tlData, tlUnitdata, Action, report, release, Request, Frame, isStart, parsed}
 use Rattle.llc_rule.specs.Ranges.{steals, wantsFcs, inRange}
 use Rattle.llc_rule.specs.Records.{Record, acknowledged, unacknowledged, Sent}
 use Rattle.llc_rule.specs.Received.{Received, received, nsOf, nrOf, upward}
-use Rattle.llc_rule.specs.Messages.{Message, waiting, submittedAfter, doneAt, hasTime, overdue, Due, slotBefore, replyTo, Place, free, placeAt, pending, taken?, mark, reported, carrierOf, sentOf, noReceipts}
+use Rattle.llc_rule.specs.Messages.{Message, waiting, submittedAfter, doneAt, hasTime, overdue, Due, slotBefore, replyTo, Place, free, placeAt, pending, taken?, mark, markOf, reported, carrierOf, sentOf, noReceipts}
 use Rattle.llc_rule.specs.Done.{Done, done}
 
 -- "The rule keeps whether it is started, main carrier, T251, time, the row's bit, acknowledged and unacknowledged messages and
@@ -260,8 +260,7 @@ afterReport i how o =
     ask 15 (taken? (is Pending) (placeAt (o .receipts) i) && not (stillWaits i o))
     (accepted
     (done
-    (keeping o (o .bit) (o .acknowledged) (o .unacknowledged) (o .due)
-    (cond (eqb how 1) (mark Marks.transmitted i (o .receipts)) (mark Marks.discarded i (o .receipts))))
+    (keeping o (o .bit) (o .acknowledged) (o .unacknowledged) (o .due) (mark (markOf how) i (o .receipts)))
     []))
 
 -- "16. Release: is the receipt taken, its message no longer held, and final?" "A release frees it."
@@ -276,33 +275,29 @@ afterRelease i o =
     (accepted
     (done (keeping o (o .bit) (o .acknowledged) (o .unacknowledged) (o .due) (set (o .receipts) i free)) []))
 
--- "4. Started, or is this a start?"
-abbrev pub mayCome : Call → Own → Bool
-mayCome (start carrier t251) o = true
-mayCome (tickStart time) o = o .started
-mayCome tickEnd o = o .started
-mayCome (dataRequest r) o = o .started
-mayCome (unitdataRequest r) o = o .started
-mayCome (frame f) o = o .started
-mayCome (report receipt how) o = o .started
-mayCome (release receipt) o = o .started
+-- A request, and a call by receipt.
+abbrev pub afterRequest : Service → Request → Own → Own
+afterRequest tlData r o = afterData r o
+afterRequest tlUnitdata r o = afterUnitdata r o
+
+abbrev pub afterAction : ℕ → Action → Own → Outcome (Done Own)
+afterAction i (report how) o = afterReport i how o
+afterAction i release o = afterRelease i o
 
 -- What each call does.
 unfoldable pub does : Call → Own → Outcome (Done Own)
 does (start carrier t251) o = accepted (done (afterStart carrier t251) [])
 does (tickStart time) o = accepted (done (afterTick time o) [])
 does tickEnd o = accepted (atTickEnd o)
-does (dataRequest r) o = accepted (done (afterData r o) [])
-does (unitdataRequest r) o = accepted (done (afterUnitdata r o) [])
+does (request s r) o = accepted (done (afterRequest s r o) [])
 does (frame f) o = afterFrame f o
-does (report receipt how) o = afterReport receipt how o
-does (release receipt) o = afterRelease receipt o
+does (byReceipt i a) o = afterAction i a o
 
 -- "The questions below save 1, 6, 7, 8 and 13 are put to what the rule keeps. A no gives the number, no record and no change;
--- else the number is 0."
+-- else the number is 0." "4. Started, or is this a start?"
 unfoldable pub judged : Own → Outcome Call → Outcome (Done Own)
 judged o (refused n) = refused n
-judged o (accepted c) = ask 4 (mayCome c o) (ask 5 (inRange c) (does c o))
+judged o (accepted c) = ask 4 (isStart c || o .started) (ask 5 (inRange c) (does c o))
 
 -- The rule on one call of any bytes.
 unfoldable pub rule : Own → List ℕ → Outcome (Done Own)

@@ -14,19 +14,22 @@ use Rattle.tx_receipt.specs.declared.TxState.the-variants.{Pending}
 use Rattle.llc_pdus.specs.declared.Pdu.{Pdu}
 use Rattle.llc_pdus.specs.declared.Pdu.the-variants.{BlAdata, BlData, BlUdata, BlAck}
 use Rattle.llc_rule.specs.Lists.{any, among, Found, nothing, first, find, others, Visit, walk}
-use Rattle.llc_rule.specs.Calls.{Call, start, tickStart, tickEnd, dataRequest, unitdataRequest, frame, report, release, Request, Frame, parsed}
+use Rattle.llc_rule.specs.Calls.{Call, start, tickStart, tickEnd, request, frame, byReceipt, Service, tlData, tlUnitdata, Action, report, release, Request, Frame, isStart, parsed}
 use Rattle.llc_rule.specs.Ranges.{steals, wantsFcs, inRange}
 use Rattle.llc_rule.specs.Records.{Record, acknowledged, unacknowledged, Sent}
 use Rattle.llc_rule.specs.Received.{Received, received, nsOf, nrOf, upward}
-use Rattle.llc_rule.specs.Messages.{Message, waiting, submittedAfter, doneAt, hasTime, overdue, Due, slotBefore, replyTo, Place, free, placeAt, isFree, pending, taken?, mark, reported, carrierOf, sentOf}
+use Rattle.llc_rule.specs.Messages.{Message, waiting, submittedAfter, doneAt, hasTime, overdue, Due, slotBefore, replyTo, Place, free, placeAt, isFree, pending, taken?, mark, markOf, reported, carrierOf, sentOf}
 use Rattle.llc_rule.specs.Done.{Done, done}
 use Rattle.llc_rule.specs.Link.{Link, Row, startedWith, withTime, withQueues, withReceipts, bitOf, withBit}
 
 -- Requests ----------------------------------------------------------------------------------------------------------------
 
 -- The acknowledgement due on the SSI and carrier of a request: the oldest, and the others.
+abbrev pub isDueFor : Request → Link → Due → Bool
+isDueFor r l d = eqb (d .ssi) (r .ssi) && eqb (d .carrier) (carrierOf (l .carrier) r)
+
 unfoldable pub dueFor : Request → Link → Found Due
-dueFor r l = find (λ (d : Due). eqb (d .ssi) (r .ssi) && eqb (d .carrier) (carrierOf (l .carrier) r)) (l .due)
+dueFor r l = find (isDueFor r l) (l .due)
 
 -- "Acknowledged path": an individual data request that does not steal.
 abbrev pub onAcknowledgedPath : Request → Bool
@@ -175,12 +178,11 @@ waits i l =
 abbrev pub reportable : ℕ → Link → Bool
 reportable i l = taken? (is Pending) (placeAt (l .receipts) i) && not (waits i l)
 
--- "A report marks its receipt as it says": 1 transmitted, 2 discarded.
+-- "A report marks its receipt as it says."
 unfoldable pub onReport : ℕ → ℕ → Link → Outcome (Done Link)
 onReport i how l =
     ask 15 (reportable i l)
-    (accepted
-    (done (withReceipts l (cond (eqb how 1) (mark Marks.transmitted i (l .receipts)) (mark Marks.discarded i (l .receipts)))) []))
+    (accepted (done (withReceipts l (mark (markOf how) i (l .receipts))) []))
 
 -- "16. Release: is the receipt taken, its message no longer held, and final?"
 abbrev pub releasable : ℕ → Link → Bool
@@ -262,26 +264,23 @@ onTickEnd l =
 
 -- A call --------------------------------------------------------------------------------------------------------------------
 
-abbrev pub isStart : Call → Bool
-isStart (start carrier t251) = true
-isStart (tickStart time) = false
-isStart tickEnd = false
-isStart (dataRequest r) = false
-isStart (unitdataRequest r) = false
-isStart (frame f) = false
-isStart (report receipt how) = false
-isStart (release receipt) = false
+-- A request, and a call by receipt.
+abbrev pub onRequest : Service → Request → Link → Outcome (Done Link)
+onRequest tlData r l = onData r l
+onRequest tlUnitdata r l = onUnitdata r l
+
+abbrev pub onReceipt : ℕ → Action → Link → Outcome (Done Link)
+onReceipt i (report how) l = onReport i how l
+onReceipt i release l = onRelease i l
 
 -- What a call is asked after questions 4 and 5, and what it does.
 unfoldable pub act : Call → Link → Outcome (Done Link)
 act (start carrier t251) l = accepted (done (startedWith carrier t251) [])
 act (tickStart time) l = accepted (done (withTime l time) [])
 act tickEnd l = accepted (onTickEnd l)
-act (dataRequest r) l = onData r l
-act (unitdataRequest r) l = onUnitdata r l
+act (request s r) l = onRequest s r l
 act (frame f) l = onFrame f l
-act (report receipt how) l = onReport receipt how l
-act (release receipt) l = onRelease receipt l
+act (byReceipt i a) l = onReceipt i a l
 
 -- "4. Started, or is this a start?", question 5, and then what the call is asked and does.
 unfoldable pub called : Link → Outcome Call → Outcome (Done Link)

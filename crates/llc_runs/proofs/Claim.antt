@@ -1,6 +1,5 @@
 -- What is claimed of every run of the entry point, from what is proved of `step`.
 use Prim.Native.Nat.{ℕ, _*_, _≤_}
-use native.Mathlib.Omega.{arith}
 use mathlib.Core.Path.{_≡_, _∙_, refl, sym, ap, ap₂, subst}
 use mathlib.Core.Bool.{true, false, not}
 use mathlib.Core.List.{List, [], _∷_, _++_, map}
@@ -9,37 +8,30 @@ use borrow.Author.Tests.{eqb-true}
 use lib.Dec.{eqb}
 use lib.ListN.{length}
 use Rattle.bits.proofs.Laws.{length-bits}
-use Rattle.questions.specs.Outcome.{number}
 use Rattle.llc_rule.specs.Limits.{storeBytes}
 use Rattle.llc_rule.specs.Lists.{keep}
-use Rattle.llc_rule.specs.Calls.{Request, parsed}
+use Rattle.llc_rule.specs.Calls.{Request}
 use Rattle.llc_rule.specs.Link.{Link, new}
-use Rattle.llc_rule.specs.Step.{step}
 use Rattle.llc_rule.specs.Rule.{atFirst}
 use Rattle.llc_rule.specs.Runs as Rule
 use Rattle.llc_rule.specs.Runs.{Exchange}
-use Rattle.llc_rule.specs.Past.{Holders, nobody, belongsTo, whose, past, strays, holdersAfter, sight, heldBy, takenFrom}
-use Rattle.llc_rule.specs.Claim as OnLink
-use Rattle.llc_rule.specs.Claim.{ruleRun, ruleSights, ruleAfter, calls, unhindered, SeesItsOwnPast, SeesTheSame, underWay, MarkedWhereTransmitted}
+use Rattle.llc_rule.specs.Past.{belongsTo, whose, History, historyOf, holdersAfter, past, sight, heldBy, takenFrom}
+use Rattle.llc_rule.specs.Seen.{ruleRun, ruleSights, ruleAfter, calls, unhindered, SeesItsOwnPast, SeesTheSame, underWay, MarkedWhereTransmitted}
+use Rattle.llc_rule.specs.Claim.{whoseAfter, Claims}
 use Rattle.llc_rule.specs.Sound.{ofAddress, All}
 use Rattle.llc_rule.specs.Sendings.{requestOf, sendings, AtMostFour, EachAtMostFour}
 use Rattle.llc_rule.proofs.Lists.{by-test, if-true, if-false, clash}
-use Rattle.llc_rule.proofs.Demand3.{demand3}
-use Rattle.llc_rule.proofs.Swap.{swap}
-use Rattle.llc_rule.proofs.UnderWay.{one-under-way}
-use Rattle.llc_rule.proofs.WhereTransmitted.{where-transmitted}
-use Rattle.llc_rule.proofs.Sendings.{handed-down}
-use Rattle.llc_rule.proofs.SendingsByRule.{handed-down-by-rule}
+use Rattle.llc_rule.proofs.Paths.{not-one}
+use Rattle.llc_rule.proofs.Claim.{claims}
 use Rattle.llc_state.specs.Ranges.{inRange}
 use Rattle.llc_state.proofs.View.{new-in-range}
 use Rattle.llc.specs.Entry.{lentRight}
 use Rattle.llc_runs.specs.Runs.{Lent, Station, begin, left, exchange, run, after}
 use Rattle.llc_runs.specs.Heard.{fits, fitting, putTo}
 use Rattle.llc_runs.specs.Outputs.{ReadOff}
-use Rattle.llc_runs.specs.Claim.{linkAt, receiptsAfter, InRange, whoseAfter, Claim}
-use Rattle.llc_runs.proofs.Ones.{past-heard, strays-heard, holders-heard, unhindered-heard, sendings-heard}
-use Rattle.llc_runs.proofs.Numbers.{not-one}
-use Rattle.llc_runs.proofs.Runs.{silent, Asked, asks, asks-not, fitting-append, fitting-yes, fitting-no, follows, wrong-is, stuck, begin-right, begin-wrong, as-step}
+use Rattle.llc_runs.specs.Claim.{linkAt, receiptsAfter, messagesAfter, InRange, Claim}
+use Rattle.llc_runs.proofs.Ones.{history-heard, unhindered-heard, four-heard}
+use Rattle.llc_runs.proofs.Runs.{silent, run-split, Asked, asks, asks-not, fitting-append, fitting-yes, fitting-no, follows, wrong-is, stuck, begin-right, begin-wrong, as-step}
 use Rattle.llc_runs.proofs.Outputs.{shown, readable, only, lines}
 
 -- Number 1 tells of what is lent, if a call that is lent what is right is put to the link.
@@ -87,24 +79,27 @@ module _ (store : List ℕ) (cs : List Lent) where
   abbrev onLink : List Exchange
   onLink = Rule.run new (putTo store cs)
 
-  pub past-is : (a : ℕ) (h : Holders) → past a h (run (begin store) cs) ≡ past a h onLink
-  past-is a h = past-heard a h (run (begin store) cs) (silent (begin store) cs) ∙ ap (past a h) (as-step store cs .heard)
-
-  strays-are : (a : ℕ) (h : Holders) → strays a h (run (begin store) cs) ≡ strays a h onLink
-  strays-are a h = strays-heard a h (run (begin store) cs) (silent (begin store) cs) ∙ ap (strays a h) (as-step store cs .heard)
-
-  pub holders-are : holdersAfter nobody (run (begin store) cs) ≡ holdersAfter nobody onLink
-  holders-are =
-      holders-heard nobody (run (begin store) cs) (silent (begin store) cs) ∙ ap (holdersAfter nobody) (as-step store cs .heard)
+  pub history-is : historyOf (run (begin store) cs) ≡ historyOf onLink
+  history-is = history-heard _ (run (begin store) cs) (silent (begin store) cs) ∙ ap historyOf (as-step store cs .heard)
 
   pub unhindered-is : unhindered (run (begin store) cs) ≡ unhindered onLink
   unhindered-is = unhindered-heard (run (begin store) cs) (silent (begin store) cs) ∙ ap unhindered (as-step store cs .heard)
 
   held-are :
       (a : ℕ)
-      → heldBy a (holdersAfter nobody (run (begin store) cs)) 0 (linkAt (after (begin store) cs) .receipts)
-      ≡ heldBy a (holdersAfter nobody onLink) 0 (Rule.after new (putTo store cs) .receipts)
-  held-are a = ap₂ (λ (h : Holders) (l : Link). heldBy a h 0 (l .receipts)) holders-are (as-step store cs .link)
+      → heldBy a (holdersAfter (run (begin store) cs)) 0 (receiptsAfter store cs)
+      ≡ heldBy a (holdersAfter onLink) 0 (Rule.after new (putTo store cs) .receipts)
+  held-are a = ap₂ (λ (k : History) (l : Link). heldBy a (k .holders) 0 (l .receipts)) history-is (as-step store cs .link)
+
+  -- What holds of the link's history and of the link holds of this one's.
+  by-history : (P : History → Type 0) → P (historyOf onLink) → P (historyOf (run (begin store) cs))
+  by-history P p = subst P (sym history-is) p
+
+  by-link : (P : Link → Type 0) → P (Rule.after new (putTo store cs)) → P (linkAt (after (begin store) cs))
+  by-link P p = subst P (sym (as-step store cs .link)) p
+
+  on-link : unhindered (run (begin store) cs) ≡ true → unhindered onLink ≡ true
+  on-link u = sym unhindered-is ∙ u
 
 -- Demand 3.
 sees-own :
@@ -113,15 +108,15 @@ sees-own :
     → (a : ℕ)
     → SeesItsOwnPast (run (begin store) cs) (receiptsAfter store cs) a
 sees-own store cs u a =
-    let d = demand3 .each (putTo store cs) (sym (unhindered-is store cs) ∙ u) a in
-    let p = past-is store cs a nobody in
+    let d = claims .demand3 (putTo store cs) (on-link store cs u) a in
+    let p : past a (run (begin store) cs) ≡ past a (onLink store cs) = ap (λ (k : History). k .past a) (history-is store cs) in
     record {
       seen = ap (map (sight a)) p ∙ d .seen ∙ ap (λ (es : List Exchange). ruleSights atFirst (calls es)) (sym p);
       receipts =
           held-are store cs a
           ∙ d .receipts
           ∙ ap (λ (es : List Exchange). takenFrom 0 (ruleAfter atFirst (calls es) .receipts)) (sym p);
-      alone = strays-are store cs a nobody ∙ d .alone;
+      alone = ap (λ (k : History). k .strays a) (history-is store cs) ∙ d .alone;
     }
 
 -- The same of what is read off a run.
@@ -151,8 +146,8 @@ sees-same :
     → AlikeOnLink a (putTo store cs) (putTo store ds)
     → Alike a store cs ds
 sees-same a store cs ds s =
-    let p = past-is store cs a nobody in
-    let q = past-is store ds a nobody in
+    let p : past a (run (begin store) cs) ≡ past a (onLink store cs) = ap (λ (k : History). k .past a) (history-is store cs) in
+    let q : past a (run (begin store) ds) ≡ past a (onLink store ds) = ap (λ (k : History). k .past a) (history-is store ds) in
     record {
       sameCalls = ap calls p ∙ s .sameCalls ∙ ap calls (sym q);
       sameSights = ap (map (sight a)) p ∙ s .sameSights ∙ ap (map (sight a)) (sym q);
@@ -209,8 +204,8 @@ put-same store before cs ds right e =
 
 swapped :
     (store : List ℕ) (before : List Lent) (c d : Lent) (later : List Lent) (s t : ℕ)
-    → whoseAfter store before c ≡ belongsTo s
-    → whoseAfter store (before ++ (c ∷ [])) d ≡ belongsTo t
+    → whoseAfter (run (begin store) before) (c .call) ≡ belongsTo s
+    → whoseAfter (run (begin store) (before ++ (c ∷ []))) (d .call) ≡ belongsTo t
     → eqb s t ≡ false
     → unhindered (run (begin store) (before ++ (c ∷ d ∷ later))) ≡ true
     → unhindered (run (begin store) (before ++ (d ∷ c ∷ later))) ≡ true
@@ -233,10 +228,10 @@ swapped store before c d later s t c-is d-is differ one other a =
     sees-same a store cs ds
     (subst (λ (x : List (List ℕ)). AlikeOnLink a x (putTo store ds)) (sym p)
     (subst (AlikeOnLink a (put ++ (c .call ∷ d .call ∷ fitting later))) (sym q)
-    (swap .each put (c .call) (d .call) (fitting later) s t
-    (ap (λ (h : Holders). whose h (c .call)) (sym (holders-are store before)) ∙ c-is)
-    (ap (λ (x : List (List ℕ)). OnLink.whoseAfter x (d .call)) (sym with-c)
-    ∙ ap (λ (h : Holders). whose h (d .call)) (sym (holders-are store (before ++ (c ∷ []))))
+    (claims .swap put (c .call) (d .call) (fitting later) s t
+    (ap (λ (k : History). whose (k .holders) (c .call)) (sym (history-is store before)) ∙ c-is)
+    (ap (λ (x : List (List ℕ)). whoseAfter (Rule.run new x) (d .call)) (sym with-c)
+    ∙ ap (λ (k : History). whose (k .holders) (d .call)) (sym (history-is store (before ++ (c ∷ []))))
     ∙ d-is)
     differ
     (ap (λ (x : List (List ℕ)). unhindered (Rule.run new x)) (sym p) ∙ sym (unhindered-is store cs) ∙ one)
@@ -246,97 +241,58 @@ swapped store before c d later s t c-is d-is differ one other a =
     (λ f. sees-as-put a store cs ds (put-same store before (c ∷ d ∷ later) (d ∷ c ∷ later) right (one-put c d later f))))
     (λ wrong. sees-as-put a store cs ds (put-wrong store cs ds wrong))
 
--- An address has at most one acknowledged message under way.
-one-by-rule :
-    (store : List ℕ) (cs : List Lent)
-    → unhindered (run (begin store) cs) ≡ true
-    → (a : ℕ)
-    → underWay (ruleAfter atFirst (calls (past a nobody (run (begin store) cs))) .acknowledged) ≤ 1
-one-by-rule store cs u a =
-    subst (λ (es : List Exchange). underWay (ruleAfter atFirst (calls es) .acknowledged) ≤ 1) (sym (past-is store cs a nobody))
-    (one-under-way .byRule (putTo store cs) (sym (unhindered-is store cs) ∙ u) a)
+calls-run : (s : Station) (cs : List Lent) → calls (run s cs) ≡ map (λ (c : Lent). c .call) cs
+unfolding run exchange
+calls-run s [] = refl
+calls-run s (c ∷ cs) = ap (λ (x : List (List ℕ)). c .call ∷ x) (calls-run (left s c) cs)
 
-one-in-state :
-    (store : List ℕ) (cs : List Lent) (a : ℕ) → underWay (ofAddress a (linkAt (after (begin store) cs) .acknowledged)) ≤ 1
-one-in-state store cs a =
-    subst (λ (l : Link). underWay (ofAddress a (l .acknowledged)) ≤ 1) (sym (as-step store cs .link))
-    (one-under-way .onLink (putTo store cs) a)
+-- Demand 3 and what follows from it.
+runs : (store : List ℕ) → Claims (λ (c : Lent). c .call) (run (begin store)) (receiptsAfter store) (messagesAfter store)
+runs store =
+    record {
+      calls = calls-run (begin store);
+      demand3 = sees-own store;
+      swap = swapped store;
+      oneUnderWay =
+          λ cs u a.
+          by-history store cs (λ (k : History). underWay (ruleAfter atFirst (calls (k .past a)) .acknowledged) ≤ 1)
+          (claims .oneUnderWay (putTo store cs) (on-link store cs u) a);
+      oneAmongHeld =
+          λ cs a. by-link store cs (λ (l : Link). underWay (ofAddress a (l .acknowledged)) ≤ 1) (claims .oneAmongHeld (putTo store cs) a);
+      whereTransmitted =
+          λ cs.
+          by-link store cs (λ (l : Link). All (MarkedWhereTransmitted (l .receipts)) (l .acknowledged))
+          (claims .whereTransmitted (putTo store cs));
+      whereTransmittedByRule =
+          λ cs u a.
+          by-history store cs
+          (λ (k : History).
+          All (MarkedWhereTransmitted (ruleAfter atFirst (calls (k .past a)) .receipts))
+          (ruleAfter atFirst (calls (k .past a)) .acknowledged))
+          (claims .whereTransmittedByRule (putTo store cs) (on-link store cs u) a);
+      four =
+          λ cs.
+          four-heard (run (begin store) cs) (silent (begin store) cs)
+          (subst EachAtMostFour (sym (as-step store cs .heard)) (claims .four (putTo store cs)));
+      fourByRule =
+          λ cs u a.
+          by-history store cs (λ (k : History). EachAtMostFour (ruleRun atFirst (calls (k .past a))))
+          (claims .fourByRule (putTo store cs) (on-link store cs u) a);
+    }
 
--- A receipt is marked where it is Transmitted.
-where-marked :
-    (store : List ℕ) (cs : List Lent)
-    → All (MarkedWhereTransmitted (linkAt (after (begin store) cs) .receipts)) (linkAt (after (begin store) cs) .acknowledged)
-where-marked store cs =
-    subst (λ (l : Link). All (MarkedWhereTransmitted (l .receipts)) (l .acknowledged)) (sym (as-step store cs .link))
-    (where-transmitted .onLink (putTo store cs))
-
-where-by-rule :
-    (store : List ℕ) (cs : List Lent)
-    → unhindered (run (begin store) cs) ≡ true
-    → (a : ℕ)
-    → All
-    (MarkedWhereTransmitted (ruleAfter atFirst (calls (past a nobody (run (begin store) cs))) .receipts))
-    (ruleAfter atFirst (calls (past a nobody (run (begin store) cs))) .acknowledged)
-where-by-rule store cs u a =
-    subst
-    (λ (es : List Exchange). All (MarkedWhereTransmitted (ruleAfter atFirst (calls es) .receipts)) (ruleAfter atFirst (calls es) .acknowledged))
-    (sym (past-is store cs a nobody))
-    (where-transmitted .byRule (putTo store cs) (sym (unhindered-is store cs) ∙ u) a)
-
--- A request that is accepted was lent what is right.
-pub sendings-are :
-    (i : ℕ) (s : Station) (c : Lent) (later : List Lent)
-    → Asked s c
-    → sendings i (run (left s c) later)
-    ≡ sendings i (Rule.run (Rule.left (linkAt s) (step (linkAt s) (c .call))) (fitting later))
-sendings-are i s c later a =
-    sendings-heard i (run (left s c) later) (silent (left s c) later)
-    ∙ ap (sendings i)
-    (follows (left s c) later (a .sane) .heard ∙ ap (λ (l : Link). Rule.run l (fitting later)) (a .leaves))
-
-four-right :
-    (store : List ℕ) (before : List Lent) (c : Lent) (r : Request) (later : List Lent)
-    → Asked (after (begin store) before) c
-    → exchange (after (begin store) before) c .number ≡ 0
-    → requestOf (parsed (c .call)) ≡ some r
-    → AtMostFour r (sendings (r .receipt) (run (left (after (begin store) before) c) later))
-four-right store before c r later a n e =
-    let s : Station = after (begin store) before in
-    let l = as-step store before .link in
-    subst (AtMostFour r)
-    (sym
-    (sendings-are (r .receipt) s c later a
-    ∙ ap (λ (x : Link). sendings (r .receipt) (Rule.run (Rule.left x (step x (c .call))) (fitting later))) l))
-    (handed-down .each (putTo store before) (c .call) r (fitting later)
-    (ap (λ (x : Link). number (step x (c .call))) (sym l) ∙ ap (λ (x : Exchange). x .number) (sym (a .asked)) ∙ n)
-    e)
-
-four :
+-- Four, by the calls: after any calls and before any calls.
+pub four-later :
     (store : List ℕ) (before : List Lent) (c : Lent) (r : Request) (later : List Lent)
     → exchange (after (begin store) before) c .number ≡ 0
-    → requestOf (parsed (c .call)) ≡ some r
+    → requestOf (c .call) ≡ some r
     → AtMostFour r (sendings (r .receipt) (run (left (after (begin store) before) c) later))
-four store before c r later n e =
+unfolding exchange
+four-later store before c r later n q =
     let s : Station = after (begin store) before in
-    let none : lentRight (s .store) (c .out) ≡ false → AtMostFour r (sendings (r .receipt) (run (left s c) later)) =
-    λ w. absurd (omega (arith, n, asks-not s c w .one)) in
-    by-test (eqb (length store) storeBytes)
-    (λ right.
-    let ok = follows (begin store) before (begin-right store right) .sane in
-    by-test (lentRight (s .store) (c .out)) (λ w. four-right store before c r later (asks s c ok w) n e) none)
-    (λ wrong.
-    let w = begin-wrong store wrong in
-    none
-    (ap (λ (t : Station). lentRight (t .store) (c .out)) (stuck (begin store) before w .same) ∙ wrong-is (begin store) c w))
-
-four-by-rule :
-    (store : List ℕ) (cs : List Lent)
-    → unhindered (run (begin store) cs) ≡ true
-    → (a : ℕ)
-    → EachAtMostFour (ruleRun atFirst (calls (past a nobody (run (begin store) cs))))
-four-by-rule store cs u a =
-    subst (λ (es : List Exchange). EachAtMostFour (ruleRun atFirst (calls es))) (sym (past-is store cs a nobody))
-    (handed-down-by-rule .each (putTo store cs) (sym (unhindered-is store cs) ∙ u) a)
+    runs store .four (before ++ (c ∷ later)) .each (run (begin store) before) (exchange s c) (run (left s c) later) r
+    (run-split (begin store) before c later)
+    n
+    q
 
 pub claim : Claim
 claim =
@@ -347,13 +303,6 @@ claim =
       readable = readable;
       only = only;
       lines = lines;
-      demand3 = sees-own;
+      runs = runs;
       demand3Read = sees-read;
-      swap = swapped;
-      oneUnderWay = one-by-rule;
-      oneInState = one-in-state;
-      whereTransmitted = where-marked;
-      whereTransmittedByRule = where-by-rule;
-      four = four;
-      fourByRule = four-by-rule;
     }

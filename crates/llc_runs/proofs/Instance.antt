@@ -14,7 +14,7 @@ use Rattle.llc_rule.specs.Calls.{toBytes}
 use Rattle.llc_rule.specs.Link.{new}
 use Rattle.llc_rule.specs.Runs as Rule
 use Rattle.llc_rule.specs.Runs.{Exchange}
-use Rattle.llc_rule.specs.Claim.{unhindered, SeesItsOwnPast}
+use Rattle.llc_rule.specs.Seen.{unhindered, SeesItsOwnPast}
 use Rattle.llc_rule.specs.Sound.{All}
 use Rattle.llc_rule.proofs.Lists.{both, if-true, and-false}
 use Rattle.llc_rule.proofs.Instance.{askFirst, askSecond, openingCalls, laterCalls, instanceCalls, turnedCalls, hasKind, hasNumber, instance-kinds, instance-numbers, unhindered-instance, unhindered-turned}
@@ -187,4 +187,4 @@ one-lent =
 
 -- So demand 3 says of it what it says of every address.
 pub sees-lents : (a : ℕ) → SeesItsOwnPast (run (begin zeroStore) lents) (receiptsAfter zeroStore lents) a
-sees-lents = claim .demand3 zeroStore lents unhindered-lents
+sees-lents = claim .runs zeroStore .demand3 lents unhindered-lents

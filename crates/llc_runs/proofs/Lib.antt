@@ -1,5 +1,4 @@
 pub mod Ones
-pub mod Numbers
 pub mod Runs
 pub mod Outputs
 pub mod Claim

@@ -1,19 +1,18 @@
 -- Calls that got number 1 are in no past and change no holder, and they give no record: a run may be read without them.
 use Prim.Native.Nat.{ℕ}
-use mathlib.Core.Path.{_≡_, _∙_, refl, sym, ap, ap₂}
+use mathlib.Core.Path.{_≡_, _∙_, refl, sym, ap, subst}
 use mathlib.Core.Bool.{Bool, false, cond, not, _&&_}
-use mathlib.Core.List.{List, [], _∷_, _++_}
+use mathlib.Core.List.{List, [], _∷_, _++_, append-nil}
 use borrow.Author.Tests.{eqb-true, not-false}
 use lib.Dec.{eqb}
 use Rattle.llc_rule.specs.Lists.{keep, any, all, among}
-use Rattle.llc_rule.specs.Calls.{parsed}
 use Rattle.llc_rule.specs.Records.{Record, ssiOf, Sent}
 use Rattle.llc_rule.specs.Runs.{Exchange}
-use Rattle.llc_rule.specs.Past.{Holders, heldAfterCall, holders, whose, concerns, leftOut, inPast, past, strays, holdersAfter}
-use Rattle.llc_rule.specs.Claim.{hindrances, unhindered}
+use Rattle.llc_rule.specs.Past.{stays, about, Holders, heldAfter, doneTo, holders, whose, concerns, leftOut, inPast, History, andThen, history}
+use Rattle.llc_rule.specs.Seen.{hindrances, unhindered}
 use Rattle.llc_rule.specs.Sound.{All}
-use Rattle.llc_rule.specs.Sendings.{ends, handed, sendings}
-use Rattle.llc_rule.proofs.Lists.{by-test, if-false, keep-yes, keep-no}
+use Rattle.llc_rule.specs.Sendings.{ends, handed, sendings, AtMostFour, EachAtMostFour}
+use Rattle.llc_rule.proofs.Lists.{by-test, if-false, keep-yes, keep-no, keep-append, all-back}
 use Rattle.llc_runs.specs.Heard.{wasHeard, heard}
 
 -- A call that got number 1 gave no record.
@@ -39,43 +38,41 @@ read-heard f same over s (e ∷ es) q =
     over s e es n (q .0 n) ∙ read-heard f same over s es (q .1) ∙ ap (f s) (sym (keep-no wasHeard e es w)))
 
 -- One such call.
-holders-one : (e : Exchange) (h : Holders) → e .number ≡ 1 → holders e h ≡ h
-unfolding holders
-holders-one e h n = if-false (heldAfterCall (parsed (e .call)) h) h (ap (λ (k : ℕ). eqb k 0) n)
+done-one : (e : Exchange) → e .number ≡ 1 → doneTo e ≡ stays
+unfolding doneTo
+done-one e n = if-false (about (e .call) .toHolding) stays (ap (λ (k : ℕ). eqb k 0) n)
 
 past-one : (a : ℕ) (h : Holders) (e : Exchange) → e .number ≡ 1 → inPast a h e ≡ false
 unfolding inPast
 past-one a h e n = ap (λ (k : ℕ). not (leftOut k) && concerns a (whose h (e .call))) n
 
-pub past-heard : (a : ℕ) (h : Holders) (es : List Exchange) → All Silent es → past a h es ≡ past a h (heard es)
-unfolding past
-past-heard a h es q =
-    read-heard (past a)
-    (λ s e es ds r. ap (λ (x : List Exchange). cond (inPast a s e) (e ∷ x) x) (r (holders e s)))
-    (λ s e es n g.
-    if-false (e ∷ past a (holders e s) es) (past a (holders e s) es) (past-one a s e n)
-    ∙ ap (λ (x : Holders). past a x es) (holders-one e s n))
-    h es q
+history-one : (k : History) (e : Exchange) → e .number ≡ 1 → e .records ≡ [] → andThen e k ≡ k
+unfolding andThen holders keep
+history-one k e n g =
+    let past-is : (a : ℕ) → k .past a ++ cond (inPast a (k .holders) e) (e ∷ []) [] ≡ k .past a =
+    λ a.
+    ap (λ (x : List Exchange). k .past a ++ x) (if-false (e ∷ []) [] (past-one a (k .holders) e n)) ∙ append-nil (k .past a) in
+    let strays-are : (a : ℕ) → k .strays a ++ cond (inPast a (k .holders) e) [] (keep (λ (r : Record). eqb (ssiOf r) a) (e .records)) ≡ k .strays a =
+    λ a.
+    ap (λ (x : List Record). k .strays a ++ x)
+    (if-false [] (keep (λ (r : Record). eqb (ssiOf r) a) (e .records)) (past-one a (k .holders) e n)
+    ∙ ap (keep (λ (r : Record). eqb (ssiOf r) a)) g)
+    ∙ append-nil (k .strays a) in
+    λ i.
+    record {
+      holders = heldAfter (done-one e n i) (k .holders);
+      past = λ a. past-is a i;
+      strays = λ a. strays-are a i;
+    }
 
-pub strays-heard : (a : ℕ) (h : Holders) (es : List Exchange) → All Silent es → strays a h es ≡ strays a h (heard es)
-unfolding strays keep
-strays-heard a h es q =
-    let ofA : Record → Bool = λ (r : Record). eqb (ssiOf r) a in
-    read-heard (strays a)
-    (λ s e es ds r. ap (λ (x : List Record). cond (inPast a s e) [] (keep ofA (e .records)) ++ x) (r (holders e s)))
-    (λ s e es n g.
-    ap₂ (λ (x : List Record) (y : Holders). x ++ strays a y es)
-    (if-false [] (keep ofA (e .records)) (past-one a s e n) ∙ ap (keep ofA) g)
-    (holders-one e s n))
-    h es q
-
-pub holders-heard : (h : Holders) (es : List Exchange) → All Silent es → holdersAfter h es ≡ holdersAfter h (heard es)
-unfolding holdersAfter
-holders-heard h es q =
-    read-heard holdersAfter
-    (λ s e es ds r. r (holders e s))
-    (λ s e es n g. ap (λ (x : Holders). holdersAfter x es) (holders-one e s n))
-    h es q
+-- So it is of the history of a run.
+pub history-heard : (k : History) (es : List Exchange) → All Silent es → history k es ≡ history k (heard es)
+unfolding history
+history-heard k es q =
+    read-heard history
+    (λ s e es ds r. r (andThen e s))
+    (λ s e es n g. ap (λ (x : History). history x es) (history-one s e n g))
+    k es q
 
 pub unhindered-heard : (es : List Exchange) → All Silent es → unhindered es ≡ unhindered (heard es)
 unfolding unhindered all any
@@ -90,9 +87,24 @@ pub sendings-heard : (i : ℕ) (es : List Exchange) → All Silent es → sendin
 unfolding sendings handed
 sendings-heard i es q =
     read-heard sendings
-    (λ j e es ds r.
-    ap (λ (x : List Sent). cond (eqb (e .number) 0 && ends j (parsed (e .call))) [] (handed j (e .records) ++ x)) (r j))
+    (λ j e es ds r. ap (λ (x : List Sent). cond (ends j (doneTo e)) [] (handed j (e .records) ++ x)) (r j))
     (λ j e es n g.
-    if-false [] (handed j (e .records) ++ sendings j es) (ap (λ (k : ℕ). eqb k 0 && ends j (parsed (e .call))) n)
+    if-false [] (handed j (e .records) ++ sendings j es) (ap (ends j) (done-one e n))
     ∙ ap (λ (rs : List Record). handed j rs ++ sendings j es) g)
     i es q
+
+-- And of what is handed down of each request.
+pub four-heard : (es : List Exchange) → All Silent es → EachAtMostFour (heard es) → EachAtMostFour es
+unfolding keep
+four-heard es q f =
+    record {
+      each =
+          λ before e later r is n t.
+          let silent = all-back Silent before (e ∷ later) (subst (All Silent) is q) in
+          let split =
+          ap heard is
+          ∙ keep-append wasHeard before (e ∷ later)
+          ∙ ap (λ (x : List Exchange). heard before ++ x) (keep-yes wasHeard e later (ap (λ (k : ℕ). not (eqb k 1)) n)) in
+          subst (AtMostFour r) (sym (sendings-heard (r .receipt) later (silent .1)))
+          (f .each (heard before) e (heard later) r split n t);
+    }

@@ -18,6 +18,7 @@ use Rattle.llc_rule.specs.Runs as Rule
 use Rattle.llc_rule.specs.Runs.{Exchange}
 use Rattle.llc_rule.specs.Sound.{All}
 use Rattle.llc_rule.proofs.Lists.{by-test, keep-yes, keep-no, keep-append}
+use Rattle.llc_rule.proofs.Paths.{not-one}
 use Rattle.llc_state.specs.Ranges.{inRange}
 use Rattle.llc_state.proofs.Lengths.{Lengths}
 use Rattle.llc_state.proofs.View.{new-in}
@@ -34,7 +35,6 @@ use Rattle.llc_runs.specs.Runs.{Lent, Station, station, begin, left, rec
 use Rattle.llc_runs.specs.Heard.{wasHeard, heard, fits, fitting}
 use Rattle.llc_runs.specs.Claim.{linkAt, AsStep}
 use Rattle.llc_runs.proofs.Ones.{Silent}
-use Rattle.llc_runs.proofs.Numbers.{not-one}
 
 -- What comes of a call, as its questions are answered.
 abbrev outcome : Station → Lent → Outcome Kept
@@ -57,6 +57,14 @@ pub silent : (s : Station) (cs : List Lent) → All Silent (run s cs)
 unfolding run exchange given callOf
 silent s [] = tt
 silent s (c ∷ cs) = (silent-by s c (outcome s c), silent (left s c) cs)
+
+-- A run taken apart at a call.
+pub run-split :
+    (s : Station) (before : List Lent) (c : Lent) (later : List Lent)
+    → run s (before ++ (c ∷ later)) ≡ run s before ++ (exchange (after s before) c ∷ run (left (after s before) c) later)
+unfolding run after
+run-split s [] c later = refl
+run-split s (b ∷ before) c later = ap (λ (es : List Exchange). exchange s b ∷ es) (run-split (left s b) before c later)
 
 -- What a call that is lent what is right gets and leaves.
 pub record Asked (s : Station) (c : Lent) : Type 0 where

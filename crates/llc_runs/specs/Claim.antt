@@ -1,29 +1,24 @@
 -- What is claimed of every run of the entry point: any store, any list of calls, each a list of bytes and an output of any
 -- length and content.
-use Prim.Native.Nat.{ℕ, _*_, _≤_}
+use Prim.Native.Nat.{ℕ, _*_}
 use mathlib.Core.Path.{_≡_}
-use mathlib.Core.Bool.{true, false, not}
-use mathlib.Core.List.{List, [], _∷_, _++_, map}
-use mathlib.Core.Option.{some}
+use mathlib.Core.Bool.{true, not}
+use mathlib.Core.List.{List, map}
 use lib.Dec.{eqb}
 use lib.ListN.{length}
-use Rattle.llc_rule.specs.Calls.{Request, parsed}
 use Rattle.llc_rule.specs.Records.{bytes, allBytes}
-use Rattle.llc_rule.specs.Messages.{Place}
+use Rattle.llc_rule.specs.Messages.{Message, Place}
 use Rattle.llc_rule.specs.Link.{Link, new}
 use Rattle.llc_rule.specs.Runs as Rule
 use Rattle.llc_rule.specs.Runs.{Exchange}
-use Rattle.llc_rule.specs.Rule.{atFirst}
-use Rattle.llc_rule.specs.Past.{nobody, Whose, belongsTo, whose, past, holdersAfter}
-use Rattle.llc_rule.specs.Claim.{ruleRun, ruleAfter, calls, unhindered, SeesItsOwnPast, SeesTheSame, underWay, MarkedWhereTransmitted}
-use Rattle.llc_rule.specs.Sound.{ofAddress, All}
-use Rattle.llc_rule.specs.Sendings.{requestOf, sendings, AtMostFour, EachAtMostFour}
+use Rattle.llc_rule.specs.Seen.{unhindered, SeesItsOwnPast}
+use Rattle.llc_rule.specs.Claim.{Claims}
 use Rattle.record_lines.specs.Split.{inLines, recordLines}
 use Rattle.llc_state.specs.Ranges.{inRange}
 use Rattle.llc_state.specs.View.{linkIn}
 use Rattle.llc_steps.specs.Answers.{laidOut}
 use Rattle.llc.specs.Entry.{lentRight, callOf}
-use Rattle.llc_runs.specs.Runs.{Lent, Station, begin, left, given, exchange, run, after}
+use Rattle.llc_runs.specs.Runs.{Lent, Station, begin, given, exchange, run, after}
 use Rattle.llc_runs.specs.Heard.{heard, putTo}
 use Rattle.llc_runs.specs.Outputs.{inOutput, ReadOff}
 
@@ -56,9 +51,9 @@ pub record AsStep (store : List ℕ) (cs : List Lent) : Type 0 where
 abbrev pub receiptsAfter : List ℕ → List Lent → List Place
 receiptsAfter store cs = linkAt (after (begin store) cs) .receipts
 
--- Whose a call is after other calls.
-abbrev pub whoseAfter : List ℕ → List Lent → Lent → Whose
-whoseAfter store cs c = whose (holdersAfter nobody (run (begin store) cs)) (c .call)
+-- The acknowledged messages that it leaves.
+abbrev pub messagesAfter : List ℕ → List Lent → List Message
+messagesAfter store cs = linkAt (after (begin store) cs) .acknowledged
 
 pub record Claim : Type 0 where
   pub shown : (s : Station) (c : Lent) → Shown s c
@@ -72,64 +67,12 @@ pub record Claim : Type 0 where
   pub lines :
       (store : List ℕ) (before : List Lent) (c : Lent)
       → recordLines (inOutput (after (begin store) before) c) ≡ inLines (map bytes (given (after (begin store) before) c))
-  -- Demand 3: for every list of calls, if none was refused for a taken receipt or a full table (6, 7, 8, 13), each address has
-  -- seen exactly what the one-address rule gives on its past alone.
-  pub demand3 :
-      (store : List ℕ) (cs : List Lent)
-      → unhindered (run (begin store) cs) ≡ true
-      → (a : ℕ)
-      → SeesItsOwnPast (run (begin store) cs) (receiptsAfter store cs) a
-  -- The same of what somebody reads off the answers and outputs alone.
+  -- Demand 3 and what follows from it, of the runs from any store.
+  pub runs : (store : List ℕ) → Claims (λ (c : Lent). c .call) (run (begin store)) (receiptsAfter store) (messagesAfter store)
+  -- Demand 3 of what somebody reads off the answers and outputs alone.
   pub demand3Read :
       (store : List ℕ) (cs : List Lent) (es : List Exchange)
       → ReadOff (begin store) cs es
       → unhindered es ≡ true
       → (a : ℕ)
       → SeesItsOwnPast es (receiptsAfter store cs) a
-  -- "So two neighbouring calls about different addresses, neither of them a tick or a start, may change places, if that makes no
-  -- such refusal, and no address sees a difference."
-  pub swap :
-      (store : List ℕ) (before : List Lent) (c d : Lent) (later : List Lent) (s t : ℕ)
-      → whoseAfter store before c ≡ belongsTo s
-      → whoseAfter store (before ++ (c ∷ [])) d ≡ belongsTo t
-      → eqb s t ≡ false
-      → unhindered (run (begin store) (before ++ (c ∷ d ∷ later))) ≡ true
-      → unhindered (run (begin store) (before ++ (d ∷ c ∷ later))) ≡ true
-      → (a : ℕ)
-      → SeesTheSame a
-      (run (begin store) (before ++ (c ∷ d ∷ later)))
-      (receiptsAfter store (before ++ (c ∷ d ∷ later)))
-      (run (begin store) (before ++ (d ∷ c ∷ later)))
-      (receiptsAfter store (before ++ (d ∷ c ∷ later)))
-  -- "By that rule an address has at most one acknowledged message under way": by the rule on its past, and in the state.
-  pub oneUnderWay :
-      (store : List ℕ) (cs : List Lent)
-      → unhindered (run (begin store) cs) ≡ true
-      → (a : ℕ)
-      → underWay (ruleAfter atFirst (calls (past a nobody (run (begin store) cs))) .acknowledged) ≤ 1
-  pub oneInState :
-      (store : List ℕ) (cs : List Lent) (a : ℕ) → underWay (ofAddress a (linkAt (after (begin store) cs) .acknowledged)) ≤ 1
-  -- "14. If N(R) would finish a message, is its receipt Transmitted?" and "Transmitted becomes Lost": in a run the two marks are
-  -- allowed exactly there, since the receipt of an acknowledged message expects an acknowledgement.
-  pub whereTransmitted :
-      (store : List ℕ) (cs : List Lent)
-      → All (MarkedWhereTransmitted (linkAt (after (begin store) cs) .receipts)) (linkAt (after (begin store) cs) .acknowledged)
-  pub whereTransmittedByRule :
-      (store : List ℕ) (cs : List Lent)
-      → unhindered (run (begin store) cs) ≡ true
-      → (a : ℕ)
-      → All
-      (MarkedWhereTransmitted (ruleAfter atFirst (calls (past a nobody (run (begin store) cs))) .receipts))
-      (ruleAfter atFirst (calls (past a nobody (run (begin store) cs))) .acknowledged)
-  -- Of every request that is accepted, after any calls and before any calls, at most four sendings, all the same.
-  pub four :
-      (store : List ℕ) (before : List Lent) (c : Lent) (r : Request) (later : List Lent)
-      → exchange (after (begin store) before) c .number ≡ 0
-      → requestOf (parsed (c .call)) ≡ some r
-      → AtMostFour r (sendings (r .receipt) (run (left (after (begin store) before) c) later))
-  -- "By that rule .. each is handed down at most four times": of every request that the rule accepts on a past, by its records.
-  pub fourByRule :
-      (store : List ℕ) (cs : List Lent)
-      → unhindered (run (begin store) cs) ≡ true
-      → (a : ℕ)
-      → EachAtMostFour (ruleRun atFirst (calls (past a nobody (run (begin store) cs))))

@@ -9,13 +9,14 @@ use lib.Dec.{ltb}
 use lib.ListN.{take, length-map, length-take}
 use lib.Seq.{take-all}
 use Rattle.tdma_time.specs.Slots.{valid, first}
-use Rattle.tdma_time.specs.declared.TdmaTime.{TdmaTime}
 use Rattle.llc_rule.specs.Lists.{all}
 use Rattle.llc_rule.specs.Messages.{free, taken}
-use Rattle.llc_state.specs.Ranges.{ifThere, entryInRange, messageInRange, udataInRange, placeInRange, headInRange, inRange}
+use Rattle.llc_state.specs.Ranges.{ifThere, sentInRange, progressInRange, entryInRange, messageInRange, udataInRange, placeInRange, headInRange, inRange}
+use Rattle.llc_state.specs.States.{noProgress}
 use Rattle.llc_state.specs.Receipts.{receiptOf}
 use Rattle.llc_state.specs.View.{frameIn, sentIn, messageIn, placeIn, linkIn}
-use Rattle.llc_state.specs.InUse.{usedOf, usedMessage, usedUdata, usedPlace, used}
+use Rattle.llc_state.specs.InUse.{usedSent, usedProgress, usedOf, usedMessage, usedUdata, usedPlace, used}
+use Rattle.llc_state.specs.declared.Progress.{Progress}
 use Rattle.llc_state.specs.declared.Entry.{Entry}
 use Rattle.llc_state.specs.declared.ReceiptPlace.{ReceiptPlace}
 use Rattle.llc_state.specs.declared.State.{State}
@@ -48,23 +49,21 @@ take-twice n l = take-all n (take n l) (omega (arith, length-take n l))
 
 -- Question 1 -------------------------------------------------------------------------------------------------------------
 
-entry-asked :
-    (e : Entry) (ns submitted done : Bool) (time : TdmaTime) (count : ℕ)
-    → entryInRange (usedOf e ns submitted done time count) ≡ entryInRange e
-unfolding entryInRange usedOf
-entry-asked e ns submitted done time count = rw (there-same (e .«has_mask») (λ (m : ℕ). ltb m 16) (e .mask) 0)
+entry-asked : (e : Entry) (p : Progress) → entryInRange (usedOf e p) ≡ entryInRange e
+unfolding entryInRange sentInRange usedSent
+entry-asked e p = rw (there-same (e .sent .«has_mask») (λ (m : ℕ). ltb m 16) (e .sent .mask) 0)
+
+progress-asked : (p : Progress) → progressInRange (usedProgress p) ≡ progressInRange p
+unfolding progressInRange usedProgress
+progress-asked p = rw (there-same (p .«has_umac_done») valid (p .«t_umac_done») first)
 
 message-asked : (e : Entry) → messageInRange (usedMessage e) ≡ messageInRange e
-unfolding messageInRange usedOf
-message-asked e =
-    rw (
-      entry-asked e (e .ns) (e .«submitted_to_umac») (e .«has_umac_done») (cond (e .«has_umac_done») (e .«t_umac_done») first) (e .«retransmit_count»),
-      there-same (e .«has_umac_done») valid (e .«t_umac_done») first,
-    )
+unfolding messageInRange
+message-asked e = rw (entry-asked e (usedProgress (e .progress)), progress-asked (e .progress))
 
 udata-asked : (e : Entry) → udataInRange (usedUdata e) ≡ udataInRange e
-unfolding udataInRange usedOf
-udata-asked e = rw (entry-asked e false false false first 0)
+unfolding udataInRange
+udata-asked e = rw (entry-asked e noProgress)
 
 place-asked : (p : ReceiptPlace) → placeInRange (usedPlace p) ≡ placeInRange p
 unfolding placeInRange
@@ -85,23 +84,21 @@ used-asked s =
 
 -- The link ---------------------------------------------------------------------------------------------------------------
 
-sent-seen :
-    (store : List ℕ) (e : Entry) (ns submitted done : Bool) (time : TdmaTime) (count : ℕ)
-    → sentIn store (usedOf e ns submitted done time count) ≡ sentIn store e
-unfolding sentIn frameIn usedOf
-sent-seen store e ns submitted done time count =
-    rw (some-same (e .«has_mask») (e .mask) 0, take-twice (e .«block_len») (e .block))
+sent-seen : (store : List ℕ) (e : Entry) (p : Progress) → sentIn store (usedOf e p) ≡ sentIn store e
+unfolding sentIn frameIn usedSent
+sent-seen store e p =
+    rw (some-same (e .sent .«has_mask») (e .sent .mask) 0, take-twice (e .sent .«block_len») (e .sent .block))
 
 message-seen : (store : List ℕ) (e : Entry) → messageIn store (usedMessage e) ≡ messageIn store e
-unfolding messageIn usedOf
+unfolding messageIn usedProgress
 message-seen store e =
     rw (
-      sent-seen store e (e .ns) (e .«submitted_to_umac») (e .«has_umac_done») (cond (e .«has_umac_done») (e .«t_umac_done») first) (e .«retransmit_count»),
-      some-same (e .«has_umac_done») (e .«t_umac_done») first,
+      sent-seen store e (usedProgress (e .progress)),
+      some-same (e .progress .«has_umac_done») (e .progress .«t_umac_done») first,
     )
 
 udata-seen : (store : List ℕ) (e : Entry) → sentIn store (usedUdata e) ≡ sentIn store e
-udata-seen store e = sent-seen store e false false false first 0
+udata-seen store e = sent-seen store e noProgress
 
 place-seen : (p : ReceiptPlace) → placeIn (usedPlace p) ≡ placeIn p
 unfolding placeIn

@@ -1,46 +1,53 @@
 -- A state with nothing in it but the values in use: those beyond a count are left out, and the others are the empty ones. Main
 -- carrier, T251 and time are as they are, also before a start.
-use Prim.Native.Nat.{ℕ}
-use mathlib.Core.Bool.{Bool, false, cond}
+use mathlib.Core.Bool.{false, cond}
 use mathlib.Core.List.{map}
 use lib.ListN.{take}
 use Rattle.tdma_time.specs.Slots.{first}
-use Rattle.tdma_time.specs.declared.TdmaTime.{TdmaTime}
+use Rattle.llc_state.specs.States.{noProgress}
+use Rattle.llc_state.specs.declared.TmaUnitdataReq.{TmaUnitdataReq}
+use Rattle.llc_state.specs.declared.Progress.{Progress}
 use Rattle.llc_state.specs.declared.Entry.{Entry}
 use Rattle.llc_state.specs.declared.ReceiptPlace.{ReceiptPlace}
 use Rattle.llc_state.specs.declared.State.{State}
 
--- What an entry of either queue uses, with these values for what is the acknowledged queue's alone.
-unfoldable pub usedOf : Entry → Bool → Bool → Bool → TdmaTime → ℕ → Entry
-usedOf e ns submitted done time count =
+-- What of the values that are handed down is in use, and of how far an acknowledged message has come.
+unfoldable pub usedSent : TmaUnitdataReq → TmaUnitdataReq
+usedSent r =
     record {
-      ssi = e .ssi;
-      «ssi_type» = e .«ssi_type»;
-      «carrier_num» = e .«carrier_num»;
-      «link_id» = e .«link_id»;
-      «endpoint_id» = e .«endpoint_id»;
-      «req_handle» = e .«req_handle»;
-      «stealing_permission» = e .«stealing_permission»;
-      «has_mask» = e .«has_mask»;
-      mask = cond (e .«has_mask») (e .mask) 0;
-      receipt = e .receipt;
-      «block_len» = e .«block_len»;
-      block = take (e .«block_len») (e .block);
-      place = e .place;
-      len = e .len;
-      ns = ns;
-      «submitted_to_umac» = submitted;
-      «has_umac_done» = done;
-      «t_umac_done» = time;
-      «retransmit_count» = count;
+      ssi = r .ssi;
+      «ssi_type» = r .«ssi_type»;
+      «carrier_num» = r .«carrier_num»;
+      «link_id» = r .«link_id»;
+      «endpoint_id» = r .«endpoint_id»;
+      «req_handle» = r .«req_handle»;
+      «stealing_permission» = r .«stealing_permission»;
+      «has_mask» = r .«has_mask»;
+      mask = cond (r .«has_mask») (r .mask) 0;
+      receipt = r .receipt;
+      «block_len» = r .«block_len»;
+      block = take (r .«block_len») (r .block);
     }
 
+unfoldable pub usedProgress : Progress → Progress
+usedProgress p =
+    record {
+      ns = p .ns;
+      «submitted_to_umac» = p .«submitted_to_umac»;
+      «has_umac_done» = p .«has_umac_done»;
+      «t_umac_done» = cond (p .«has_umac_done») (p .«t_umac_done») first;
+      «retransmit_count» = p .«retransmit_count»;
+    }
+
+-- What an entry of either queue uses; how far it has come is the acknowledged queue's alone.
+abbrev pub usedOf : Entry → Progress → Entry
+usedOf e p = record { sent = usedSent (e .sent); frame = e .frame; progress = p }
+
 abbrev pub usedMessage : Entry → Entry
-usedMessage e =
-    usedOf e (e .ns) (e .«submitted_to_umac») (e .«has_umac_done») (cond (e .«has_umac_done») (e .«t_umac_done») first) (e .«retransmit_count»)
+usedMessage e = usedOf e (usedProgress (e .progress))
 
 abbrev pub usedUdata : Entry → Entry
-usedUdata e = usedOf e false false false first 0
+usedUdata e = usedOf e noProgress
 
 abbrev pub usedPlace : ReceiptPlace → ReceiptPlace
 usedPlace p =

@@ -1,4 +1,5 @@
 pub mod InUse
+pub mod Progress
 pub mod Ranges
 pub mod Receipts
 pub mod States

@@ -12,6 +12,8 @@ use Rattle.llc_pdus.specs.Writes.{longestOf, longestSent}
 use Rattle.llc_rule.specs.Limits.{storePlaces}
 use Rattle.llc_rule.specs.Lists.{all}
 use Rattle.llc_rule.specs.Ranges.{isType, isReceipt}
+use Rattle.llc_state.specs.declared.TmaUnitdataReq.{TmaUnitdataReq}
+use Rattle.llc_state.specs.declared.Progress.{Progress}
 use Rattle.llc_state.specs.declared.Entry.{Entry}
 use Rattle.llc_state.specs.declared.ScheduledOutAck.{ScheduledOutAck}
 use Rattle.llc_state.specs.declared.ReceiptPlace.{ReceiptPlace}
@@ -26,28 +28,33 @@ ifThere there fits = not there || fits
 abbrev pub isSsi : ℕ → Bool
 isSsi n = ltb n 16777216
 
+-- What is handed down, and how far a message has come.
+unfoldable pub sentInRange : TmaUnitdataReq → Bool
+sentInRange r =
+    isSsi (r .ssi)
+    && isType (r .«ssi_type»)
+    && ifThere (r .«has_mask») (ltb (r .mask) 16)
+    && isReceipt (r .receipt)
+    && leb (r .«block_len») 64
+
+unfoldable pub progressInRange : Progress → Bool
+progressInRange p = leb (p .«retransmit_count») 3 && ifThere (p .«has_umac_done») (valid (p .«t_umac_done»))
+
 -- An entry of either queue.
 unfoldable pub entryInRange : Entry → Bool
-entryInRange e =
-    isSsi (e .ssi)
-    && isType (e .«ssi_type»)
-    && ifThere (e .«has_mask») (ltb (e .mask) 16)
-    && isReceipt (e .receipt)
-    && leb (e .«block_len») 64
-    && ltb (e .place) storePlaces
+entryInRange e = sentInRange (e .sent) && ltb (e .frame .place) storePlaces
 
 -- One of the acknowledged queue: its frame is the header of a BL-DATA or a BL-ADATA and the SDU.
 unfoldable pub messageInRange : Entry → Bool
 messageInRange e =
     entryInRange e
-    && leb (lengthOf bdata) (e .len)
-    && leb (e .len) longestSent
-    && leb (e .«retransmit_count») 3
-    && ifThere (e .«has_umac_done») (valid (e .«t_umac_done»))
+    && leb (lengthOf bdata) (e .frame .len)
+    && leb (e .frame .len) longestSent
+    && progressInRange (e .progress)
 
 -- One of the unacknowledged queue: its frame is the header of a BL-UDATA or a BL-ACK and the SDU.
 unfoldable pub udataInRange : Entry → Bool
-udataInRange e = entryInRange e && leb (lengthOf udata) (e .len) && leb (e .len) (longestOf ack)
+udataInRange e = entryInRange e && leb (lengthOf udata) (e .frame .len) && leb (e .frame .len) (longestOf ack)
 
 unfoldable pub ackInRange : ScheduledOutAck → Bool
 ackInRange a = isSsi (a .ssi) && isType (a .«ssi_type») && leb 1 (a .ts) && leb (a .ts) 4

@@ -4,6 +4,10 @@ use mathlib.Core.Bool.{Bool, true, false}
 use lib.ListN.{replicate}
 use Rattle.tdma_time.specs.Slots.{first}
 use Rattle.tdma_time.specs.declared.TdmaTime.{TdmaTime}
+use Rattle.llc_state.specs.Progress.{newProgress}
+use Rattle.llc_state.specs.declared.TmaUnitdataReq.{TmaUnitdataReq}
+use Rattle.llc_state.specs.declared.FramePlace.{FramePlace}
+use Rattle.llc_state.specs.declared.Progress.{Progress}
 use Rattle.llc_state.specs.declared.Entry.{Entry}
 use Rattle.llc_state.specs.declared.ScheduledOutAck.{ScheduledOutAck}
 use Rattle.llc_state.specs.declared.ReceiptPlace.{ReceiptPlace}
@@ -11,8 +15,8 @@ use Rattle.llc_state.specs.declared.LinkSendSeq.{LinkSendSeq}
 use Rattle.llc_state.specs.declared.State.{State}
 
 -- What stands in the elements that are not in use.
-unfoldable pub noEntry : Entry
-noEntry =
+abbrev pub noSent : TmaUnitdataReq
+noSent =
     record {
       ssi = 0;
       «ssi_type» = 0;
@@ -26,14 +30,16 @@ noEntry =
       receipt = 0;
       «block_len» = 0;
       block = replicate 64 0;
-      place = 0;
-      len = 0;
-      ns = false;
-      «submitted_to_umac» = false;
-      «has_umac_done» = false;
-      «t_umac_done» = first;
-      «retransmit_count» = 0;
     }
+
+abbrev pub noFrame : FramePlace
+noFrame = record { place = 0; len = 0 }
+
+abbrev pub noProgress : Progress
+noProgress = newProgress false
+
+unfoldable pub noEntry : Entry
+noEntry = record { sent = noSent; frame = noFrame; progress = noProgress }
 
 abbrev pub noAck : ScheduledOutAck
 noAck = record { ssi = 0; «ssi_type» = 0; «carrier_num» = 0; nr = false; ts = 0 }

@@ -10,6 +10,8 @@ use Rattle.llc_rule.specs.Records.{Sent}
 use Rattle.llc_rule.specs.Messages.{Message, Due, Place, free, taken}
 use Rattle.llc_rule.specs.Link.{Link, Row}
 use Rattle.llc_state.specs.Receipts.{receiptOf}
+use Rattle.llc_state.specs.declared.TmaUnitdataReq.{TmaUnitdataReq}
+use Rattle.llc_state.specs.declared.Progress.{Progress}
 use Rattle.llc_state.specs.declared.Entry.{Entry}
 use Rattle.llc_state.specs.declared.ScheduledOutAck.{ScheduledOutAck}
 use Rattle.llc_state.specs.declared.ReceiptPlace.{ReceiptPlace}
@@ -22,35 +24,41 @@ placeBit p = 8 * (placeBytes * p)
 
 -- The frame of a message.
 unfoldable pub frameIn : List ℕ → Entry → List ℕ
-frameIn store e = part store (placeBit (e .place)) (e .len)
+frameIn store e = part store (placeBit (e .frame .place)) (e .frame .len)
 
--- A message as it is handed down.
+-- What is handed down, with a frame; a message as it is handed down.
+abbrev pub sentWith : List ℕ → TmaUnitdataReq → Sent
+sentWith pdu r =
+    record {
+      ssi = r .ssi;
+      type = r .«ssi_type»;
+      carrier = r .«carrier_num»;
+      link = r .«link_id»;
+      endpoint = r .«endpoint_id»;
+      handle = r .«req_handle»;
+      steal = r .«stealing_permission»;
+      mask = cond (r .«has_mask») (some (r .mask)) none;
+      receipt = r .receipt;
+      block = take (r .«block_len») (r .block);
+      pdu = pdu;
+    }
+
 unfoldable pub sentIn : List ℕ → Entry → Sent
-sentIn store e =
+sentIn store e = sentWith (frameIn store e) (e .sent)
+
+-- A message that has come so far; an acknowledged message.
+abbrev pub messageWith : Sent → Progress → Message
+messageWith sent p =
     record {
-      ssi = e .ssi;
-      type = e .«ssi_type»;
-      carrier = e .«carrier_num»;
-      link = e .«link_id»;
-      endpoint = e .«endpoint_id»;
-      handle = e .«req_handle»;
-      steal = e .«stealing_permission»;
-      mask = cond (e .«has_mask») (some (e .mask)) none;
-      receipt = e .receipt;
-      block = take (e .«block_len») (e .block);
-      pdu = frameIn store e;
+      sent = sent;
+      ns = p .ns;
+      submitted = p .«submitted_to_umac»;
+      done = cond (p .«has_umac_done») (some (p .«t_umac_done»)) none;
+      resends = p .«retransmit_count»;
     }
 
--- An acknowledged message.
 unfoldable pub messageIn : List ℕ → Entry → Message
-messageIn store e =
-    record {
-      sent = sentIn store e;
-      ns = e .ns;
-      submitted = e .«submitted_to_umac»;
-      done = cond (e .«has_umac_done») (some (e .«t_umac_done»)) none;
-      resends = e .«retransmit_count»;
-    }
+messageIn store e = messageWith (sentIn store e) (e .progress)
 
 -- An acknowledgement that is due.
 unfoldable pub dueIn : ScheduledOutAck → Due

@@ -13,9 +13,9 @@ pub const STORE_PLACES: usize = 96;
 /// How many bytes a place of the store has.
 pub const PLACE_BYTES: usize = 336;
 
-/// A message that the link holds. Its frame's bits lie in the store.
+/// What is handed down of a message, but for its frame.
 #[repr(C)]
-pub struct Entry {
+pub struct TmaUnitdataReq {
     /// Address to which it is sent.
     pub ssi: u32,
     /// 1 individual, 2 group.
@@ -40,10 +40,20 @@ pub struct Entry {
     pub block_len: usize,
     /// Pass-through block, of which `block_len` bytes count.
     pub block: [u8; 64],
+}
+
+/// Where a frame's bits lie in the store.
+#[repr(C)]
+pub struct FramePlace {
     /// Which of the places of the store its frame has.
     pub place: usize,
     /// How many bits its frame has.
     pub len: usize,
+}
+
+/// How far a message has come.
+#[repr(C)]
+pub struct Progress {
     /// Expected acknowledgement sequence number.
     pub ns: bool,
     /// Was it passed down?
@@ -54,6 +64,17 @@ pub struct Entry {
     pub t_umac_done: TdmaTime,
     /// How often it was passed down again.
     pub retransmit_count: u8,
+}
+
+/// A message that the link holds.
+#[repr(C)]
+pub struct Entry {
+    /// What of it is handed down.
+    pub sent: TmaUnitdataReq,
+    /// Where its frame lies.
+    pub frame: FramePlace,
+    /// How far it has come.
+    pub progress: Progress,
 }
 
 /// An acknowledgement that is due.

@@ -3,13 +3,15 @@ ghost use Prim.Native.Nat.{_≤_};
 ghost use mathlib.Core.Path.{_≡_};
 ghost use lib.ListN.{take};
 ghost use Rattle.llc_rule.specs.Lists.{all};
-ghost use Rattle.llc_state.specs.Ranges.{entryInRange, messageInRange, udataInRange, ackInRange, placeInRange, rowInRange, headInRange, inRange};
+ghost use Rattle.llc_state.specs.Ranges.{sentInRange, progressInRange, entryInRange, messageInRange, udataInRange, ackInRange, placeInRange, rowInRange, headInRange, inRange};
 use crate::Entry;
 use crate::LinkSendSeq;
+use crate::Progress;
 use crate::ReceiptPlace;
 use crate::STORE_PLACES;
 use crate::ScheduledOutAck;
 use crate::State;
+use crate::TmaUnitdataReq;
 use llc_pdus::N251_BL_MAX_TLSDU_LEN_BITS;
 
 // The fewest and the most bits of an acknowledged message's frame: a header of 5 or 6 bits, and the SDU.
@@ -22,16 +24,29 @@ const SHORTEST_UDATA: usize = 4;
 
 const LONGEST_UDATA: usize = 5 + N251_BL_MAX_TLSDU_LEN_BITS;
 
+// What is handed down of a message.
+fn sent_in_range(sent: TmaUnitdataReq) -> bool
+    ensures { λ r. ⌜ r ≡ sentInRange sent ⌝ }
+{
+    (sent.ssi < 16_777_216)
+        & ((sent.ssi_type == 1) | (sent.ssi_type == 2))
+        & (!sent.has_mask | (sent.mask < 16))
+        & (sent.receipt < 128)
+        & (sent.block_len <= 64)
+}
+
+// How far a message has come.
+fn progress_in_range(progress: Progress) -> bool
+    ensures { λ r. ⌜ r ≡ progressInRange progress ⌝ }
+{
+    (progress.retransmit_count <= 3) & (!progress.has_umac_done | progress.t_umac_done.is_valid())
+}
+
 // An entry of either queue.
 fn entry_in_range(e: Entry) -> bool
     ensures { λ r. ⌜ r ≡ entryInRange e ⌝ }
 {
-    (e.ssi < 16_777_216)
-        & ((e.ssi_type == 1) | (e.ssi_type == 2))
-        & (!e.has_mask | (e.mask < 16))
-        & (e.receipt < 128)
-        & (e.block_len <= 64)
-        & (e.place < STORE_PLACES)
+    sent_in_range(e.sent) & (e.frame.place < STORE_PLACES)
 }
 
 // An entry of the acknowledged queue.
@@ -39,17 +54,16 @@ fn message_in_range(e: Entry) -> bool
     ensures { λ r. ⌜ r ≡ messageInRange e ⌝ }
 {
     entry_in_range(e)
-        & (SHORTEST_MESSAGE <= e.len)
-        & (e.len <= LONGEST_MESSAGE)
-        & (e.retransmit_count <= 3)
-        & (!e.has_umac_done | e.t_umac_done.is_valid())
+        & (SHORTEST_MESSAGE <= e.frame.len)
+        & (e.frame.len <= LONGEST_MESSAGE)
+        & progress_in_range(e.progress)
 }
 
 // An entry of the unacknowledged queue.
 fn udata_message_in_range(e: Entry) -> bool
     ensures { λ r. ⌜ r ≡ udataInRange e ⌝ }
 {
-    entry_in_range(e) & (SHORTEST_UDATA <= e.len) & (e.len <= LONGEST_UDATA)
+    entry_in_range(e) & (SHORTEST_UDATA <= e.frame.len) & (e.frame.len <= LONGEST_UDATA)
 }
 
 // An acknowledgement that is due.

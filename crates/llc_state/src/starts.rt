@@ -1,11 +1,15 @@
 // The states that the link begins with, and the state at another time.
 ghost use mathlib.Core.Path.{_≡_};
+ghost use Rattle.llc_state.specs.Progress.{newProgress};
 ghost use Rattle.llc_state.specs.States.{noEntry, noAck, noReceipt, noRow, newState, startedState, atTime};
 use crate::Entry;
+use crate::FramePlace;
 use crate::LinkSendSeq;
+use crate::Progress;
 use crate::ReceiptPlace;
 use crate::ScheduledOutAck;
 use crate::State;
+use crate::TmaUnitdataReq;
 use tdma_time::TdmaTime;
 
 // The first time.
@@ -16,8 +20,8 @@ const FIRST: TdmaTime = TdmaTime {
     h: 0,
 };
 
-// The values of an entry that is not in use.
-const NO_ENTRY: Entry = Entry {
+// The values of an entry that is not in use, by its groups.
+const NO_SENT: TmaUnitdataReq = TmaUnitdataReq {
     ssi: 0,
     ssi_type: 0,
     carrier_num: 0,
@@ -30,13 +34,22 @@ const NO_ENTRY: Entry = Entry {
     receipt: 0,
     block_len: 0,
     block: [0; 64],
-    place: 0,
-    len: 0,
+};
+
+const NO_FRAME: FramePlace = FramePlace { place: 0, len: 0 };
+
+const NO_PROGRESS: Progress = Progress {
     ns: false,
     submitted_to_umac: false,
     has_umac_done: false,
     t_umac_done: FIRST,
     retransmit_count: 0,
+};
+
+const NO_ENTRY: Entry = Entry {
+    sent: NO_SENT,
+    frame: NO_FRAME,
+    progress: NO_PROGRESS,
 };
 
 // The values of an acknowledgement, a receipt's place and a row that are not in use.
@@ -72,6 +85,17 @@ pub const NEW: State = State {
     n_rows: 0,
     link_send_seq: [NO_ROW; 256],
 };
+
+impl Progress {
+    /// How far a new message has come, by its N(S).
+    pub fn new(ns: bool) -> Progress
+        ensures { λ r. ⌜ r ≡ newProgress ns ⌝ }
+    {
+        let mut progress = NO_PROGRESS;
+        progress.ns = ns;
+        progress
+    }
+}
 
 impl Entry {
     /// An entry that is not in use.

@@ -12,12 +12,12 @@ use Rattle.tx_receipt.specs.Marks as Marks
 use Rattle.tx_receipt.specs.Marks.{allowed}
 use Rattle.tx_receipt.specs.declared.TxState.the-variants.{Pending}
 use Rattle.llc_rule.specs.Lists.{Found, nothing, first}
-use Rattle.llc_rule.specs.Calls.{Frame}
+use Rattle.llc_rule.specs.Calls.{Action, report, release, Frame}
 use Rattle.llc_rule.specs.Records.{Sent}
 use Rattle.llc_rule.specs.Received.{Received, nsOf, nrOf, upward}
 use Rattle.llc_rule.specs.Messages as Rule
-use Rattle.llc_rule.specs.Messages.{Message, Due, Place}
-use Rattle.llc_rule.specs.Done.{done}
+use Rattle.llc_rule.specs.Messages.{Message, Due, Place, markOf}
+use Rattle.llc_rule.specs.Done.{Done, done}
 use Rattle.llc_rule.specs.Link as Link
 use Rattle.llc_rule.specs.Step as Step
 use Rattle.llc_rule.proofs.Lists.{ap-cond}
@@ -27,19 +27,21 @@ use Rattle.llc_state.specs.declared.ScheduledOutAck.{ScheduledOutAck}
 use Rattle.llc_state.specs.declared.ReceiptPlace.{ReceiptPlace}
 use Rattle.llc_state.specs.declared.State.{State}
 use Rattle.llc_steps.specs.States.{messagesOf, udataOf, acksOf, rowsOf, relaid, Kept}
-use Rattle.llc_state.specs.Receipts.{receiptOf, placeOf, mark}
+use Rattle.llc_state.specs.Receipts.{mark}
 use Rattle.llc_state.proofs.Places.{mark-in, taken-in}
-use Rattle.llc_steps.specs.Calls.{ackRoom, scheduled, expected, fits, finishable, mayFinish, answeredBy, answered, onReceived, held, waits, withReceipts, onReport, onRelease}
+use Rattle.llc_steps.specs.Calls.{ackRoom, scheduled, expected, fits, finishable, mayFinish, answeredBy, answered, onReceived, held, waits, withReceipts, onReport, onRelease, onReceipt}
 use Rattle.llc_state.specs.States.{noReceipt}
 use Rattle.llc_state.proofs.Maps.{map-append, map-set, mapFound, find-map, any-map}
 use Rattle.llc_steps.specs.Holds.{keptIn, Counted}
 use Rattle.llc_steps.proofs.Relaid.{relaid-in}
 use Rattle.llc_steps.proofs.TickEnd.{has-time}
 
-pub kept-ask : (n : ℕ) (b : Bool) (o : Outcome Kept) → keptIn (ask n b o) ≡ ask n b (keptIn o)
+-- A question that is asked alike of a state and of the link that it holds, and then what they leave.
+pub kept-ask :
+    (n : ℕ) {b c : Bool} (o : Outcome Kept) {p : Outcome (Done Link.Link)} → b ≡ c → (b ≡ true → keptIn o ≡ p) → keptIn (ask n b o) ≡ ask n c p
 unfolding keptIn
-kept-ask n true o = refl
-kept-ask n false o = refl
+kept-ask n {b = true} o {p = p} e f = f refl ∙ ap (λ (t : Bool). ask n t p) e
+kept-ask n {b = false} o {p = p} e f = ap (λ (t : Bool). ask n t p) e
 
 empty-in : placeIn noReceipt ≡ Rule.free
 unfolding placeIn
@@ -65,27 +67,28 @@ module _ (s : State) (store : List ℕ) where
   unfolding linkIn
   receipts-in ps = relaid-in s store (messagesOf s) (udataOf s) (acksOf s) ps (rowsOf s)
 
-  pub report-in : (i how : ℕ) → keptIn (onReport i how s store) ≡ Step.onReport i how (linkIn s store)
+  report-in : (i how : ℕ) → keptIn (onReport i how s store) ≡ Step.onReport i how (linkIn s store)
   unfolding onReport Step.onReport keptIn linkIn
   report-in i how =
       let ps : List ReceiptPlace = s .receipts in
-      kept-ask 15 (placeOf ps i .taken && is Pending (receiptOf (placeOf ps i)) && not (waits i s)) _
-      ∙ ap₂ (λ (b : Bool) (l : Link.Link). ask 15 b (accepted (done l [])))
-      (ap₂ (λ (x y : Bool). x && not y) (taken-in (is Pending) ps i) (sym (waits-in i)))
-      (receipts-in (cond (eqb how 1) (mark Marks.transmitted i ps) (mark Marks.discarded i ps))
-      ∙ ap (Link.withReceipts (linkIn s store))
-      (ap-cond (map placeIn) (eqb how 1) (mark Marks.transmitted i ps) (mark Marks.discarded i ps)
-      ∙ ap₂ (cond (eqb how 1)) (mark-in Marks.transmitted i ps) (mark-in Marks.discarded i ps)))
+      kept-ask 15 _ (ap₂ (λ (x y : Bool). x && not y) (taken-in (is Pending) ps i) (sym (waits-in i)))
+      (λ t.
+      ap (λ (l : Link.Link). accepted (done l []))
+      (receipts-in (mark (markOf how) i ps) ∙ ap (Link.withReceipts (linkIn s store)) (mark-in (markOf how) i ps)))
 
-  pub release-in : (i : ℕ) → keptIn (onRelease i s store) ≡ Step.onRelease i (linkIn s store)
+  release-in : (i : ℕ) → keptIn (onRelease i s store) ≡ Step.onRelease i (linkIn s store)
   unfolding onRelease Step.onRelease keptIn linkIn
   release-in i =
       let ps : List ReceiptPlace = s .receipts in
-      kept-ask 16 (placeOf ps i .taken && final (receiptOf (placeOf ps i)) && not (held i s)) _
-      ∙ ap₂ (λ (b : Bool) (l : Link.Link). ask 16 b (accepted (done l [])))
-      (ap₂ (λ (x y : Bool). x && not y) (taken-in final ps i) (sym (held-in i)))
+      kept-ask 16 _ (ap₂ (λ (x y : Bool). x && not y) (taken-in final ps i) (sym (held-in i)))
+      (λ t.
+      ap (λ (l : Link.Link). accepted (done l []))
       (receipts-in (set ps i noReceipt)
-      ∙ ap (Link.withReceipts (linkIn s store)) (map-set placeIn ps i noReceipt ∙ ap (set (map placeIn ps) i) empty-in))
+      ∙ ap (Link.withReceipts (linkIn s store)) (map-set placeIn ps i noReceipt ∙ ap (set (map placeIn ps) i) empty-in)))
+
+  pub by-receipt-in : (i : ℕ) (a : Action) → keptIn (onReceipt i a s store) ≡ Step.onReceipt i a (linkIn s store)
+  by-receipt-in i (report how) = report-in i how
+  by-receipt-in i release = release-in i
 
 -- Frames.
 module _ (f : Frame) (s : State) (store : List ℕ) (ok : Counted s) where
@@ -107,13 +110,13 @@ module _ (f : Frame) (s : State) (store : List ℕ) (ok : Counted s) where
 
   fits-in : (nr : Bool) (e : Entry) → fits nr e ≡ Step.fits nr (messageIn store e)
   unfolding messageIn
-  fits-in nr e = ap (λ (b : Bool). b && Bool·beq (e .ns) nr) (sym (has-time (e .«has_umac_done») (e .«t_umac_done»)))
+  fits-in nr e = ap (λ (b : Bool). b && Bool·beq (e .progress .ns) nr) (sym (has-time (e .progress .«has_umac_done») (e .progress .«t_umac_done»)))
 
   finishable-in : (nr : Bool) (x : Found Entry) → finishable nr x s ≡ Step.finishable nr (mapFound (messageIn store) x) (linkIn s store)
   unfolding linkIn messageIn sentIn
   finishable-in nr nothing = refl
   finishable-in nr (first e es) =
-      ap₂ (λ (x y : Bool). not x || y) (fits-in nr e) (taken-in (allowed Marks.acknowledged) (s .receipts) (e .receipt))
+      ap₂ (λ (x y : Bool). not x || y) (fits-in nr e) (taken-in (allowed Marks.acknowledged) (s .receipts) (e .sent .receipt))
 
   may-finish-in : (x : Option Bool) → mayFinish f x s ≡ Step.mayFinish f x (linkIn s store)
   may-finish-in none = refl
@@ -135,16 +138,16 @@ module _ (f : Frame) (s : State) (store : List ℕ) (ok : Counted s) where
   unfolding answeredBy Step.answeredBy linkIn messageIn sentIn
   answered-by-in nr nothing ds = with-in (messagesOf s) ds (s .receipts)
   answered-by-in nr (first e es) ds =
-      let gone : State = relaid s es (udataOf s) ds (mark Marks.acknowledged (e .receipt) (s .receipts)) (rowsOf s) in
+      let gone : State = relaid s es (udataOf s) ds (mark Marks.acknowledged (e .sent .receipt) (s .receipts)) (rowsOf s) in
       let moved : State = relaid s (e ∷ es) (udataOf s) ds (s .receipts) (rowsOf s) in
       ap-cond (λ (t : State). linkIn t store) (fits nr e) gone moved
       ∙ (λ i.
       cond (fits-in nr e i)
-      ((with-in es ds (mark Marks.acknowledged (e .receipt) (s .receipts))
+      ((with-in es ds (mark Marks.acknowledged (e .sent .receipt) (s .receipts))
       ∙ ap
       (λ (ps : List Place).
       Link.withQueues (linkIn s store) (map (messageIn store) es) (linkIn s store .unacknowledged) (map dueIn ds) ps (linkIn s store .rows))
-      (mark-in Marks.acknowledged (e .receipt) (s .receipts))) i)
+      (mark-in Marks.acknowledged (e .sent .receipt) (s .receipts))) i)
       (with-in (e ∷ es) ds (s .receipts) i))
 
   answered-in :
@@ -160,13 +163,10 @@ module _ (f : Frame) (s : State) (store : List ℕ) (ok : Counted s) where
   unfolding onReceived Step.onReceived keptIn
   received-in (refused n) = refl
   received-in (accepted r) =
-      kept-ask 13 (ackRoom (nsOf (r .header)) s) _
-      ∙ ap (ask 13 (ackRoom (nsOf (r .header)) s)) (kept-ask 14 (mayFinish f (nrOf (r .header)) s) _)
-      ∙ (λ i.
-      ask 13 (room-in (nsOf (r .header)) i)
-      (ask 14 (may-finish-in (nrOf (r .header)) i)
-      (accepted
-      (done
-      ((answered-in (nrOf (r .header)) (scheduled f (nsOf (r .header)) s)
-      ∙ ap (λ (ds : List Due). Step.answered f (nrOf (r .header)) (Step.dueNow (linkIn s store) ds)) (scheduled-in (nsOf (r .header)))) i)
-      (upward f (r .header) (r .sdu))))))
+      kept-ask 13 _ (room-in (nsOf (r .header)))
+      (λ room.
+      kept-ask 14 _ (may-finish-in (nrOf (r .header)))
+      (λ may.
+      ap (λ (l : Link.Link). accepted (done l (upward f (r .header) (r .sdu))))
+      (answered-in (nrOf (r .header)) (scheduled f (nsOf (r .header)) s)
+      ∙ ap (λ (ds : List Due). Step.answered f (nrOf (r .header)) (Step.dueNow (linkIn s store) ds)) (scheduled-in (nsOf (r .header))))))

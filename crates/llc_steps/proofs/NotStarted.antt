@@ -4,7 +4,7 @@ use mathlib.Core.Path.{_≡_, refl}
 use mathlib.Core.Bool.{false}
 use mathlib.Core.List.{List}
 use Rattle.questions.specs.Outcome.{Outcome, accepted, refused}
-use Rattle.llc_rule.specs.Calls.{Call, start, tickStart, tickEnd, dataRequest, unitdataRequest, frame, report, release, parsed}
+use Rattle.llc_rule.specs.Calls.{Call, start, tickStart, tickEnd, request, frame, byReceipt, parsed}
 use Rattle.llc_state.specs.States.{emptyState, newState}
 use Rattle.llc_state.specs.declared.State.{State}
 use Rattle.llc_steps.specs.Steps.{acts, called, steps}
@@ -15,11 +15,9 @@ not-started s store (refused n) e = refl
 not-started s store (accepted (start carrier t251)) e = refl
 not-started s store (accepted (tickStart time)) e = rw e
 not-started s store (accepted tickEnd) e = rw e
-not-started s store (accepted (dataRequest r)) e = rw e
-not-started s store (accepted (unitdataRequest r)) e = rw e
+not-started s store (accepted (request v r)) e = rw e
 not-started s store (accepted (frame f)) e = rw e
-not-started s store (accepted (report receipt how)) e = rw e
-not-started s store (accepted (release receipt)) e = rw e
+not-started s store (accepted (byReceipt i a)) e = rw e
 
 -- A call does what it does on the new state.
 pub steps-not-started : (s : State) (store bytes : List ℕ) → s .started ≡ false → steps s store bytes ≡ steps newState store bytes

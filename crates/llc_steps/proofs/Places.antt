@@ -75,8 +75,8 @@ first-free us h =
 
 none-there :
     (p : ℕ) (es : List Entry)
-    → among p (map (λ (e : Entry). e .place) es) ≡ false
-    → All (λ (e : Entry). eqb (e .place) p ≡ false) es
+    → among p (map (λ (e : Entry). e .frame .place) es) ≡ false
+    → All (λ (e : Entry). eqb (e .frame .place) p ≡ false) es
 unfolding any
 none-there p [] h = tt
 none-there p (e ∷ es) h = let both = neither h in (both .0, none-there p es (both .1))
@@ -86,11 +86,11 @@ pub free-place :
     (s : State)
     → length (take (s .«n_messages») (s .«outbound_messages»)) + length (take (s .«n_udata») (s .«outbound_udata_messages»)) < storePlaces
     → (freePlace s < storePlaces)
-    × All (λ (e : Entry). eqb (e .place) (freePlace s) ≡ false) (take (s .«n_messages») (s .«outbound_messages»))
-    × All (λ (e : Entry). eqb (e .place) (freePlace s) ≡ false) (take (s .«n_udata») (s .«outbound_udata_messages»))
+    × All (λ (e : Entry). eqb (e .frame .place) (freePlace s) ≡ false) (take (s .«n_messages») (s .«outbound_messages»))
+    × All (λ (e : Entry). eqb (e .frame .place) (freePlace s) ≡ false) (take (s .«n_udata») (s .«outbound_udata_messages»))
 unfolding freePlace usedPlaces
 free-place s h =
-    let place : Entry → ℕ = λ (e : Entry). e .place in
+    let place : Entry → ℕ = λ (e : Entry). e .frame .place in
     let ms : List Entry = take (s .«n_messages») (s .«outbound_messages») in
     let us : List Entry = take (s .«n_udata») (s .«outbound_udata_messages») in
     let long : length (map place ms ++ map place us) ≡ length ms + length us =
@@ -176,11 +176,11 @@ pub frame-elsewhere :
     (store : List ℕ) (p : ℕ) (vs : List ℕ) (e : Entry)
     → length store ≡ 8 * storeBytes
     → p < storePlaces
-    → e .place < storePlaces
-    → eqb (e .place) p ≡ false
+    → e .frame .place < storePlaces
+    → eqb (e .frame .place) p ≡ false
     → length vs ≤ placeBits
-    → e .len ≤ placeBits
+    → e .frame .len ≤ placeBits
     → frameIn (splice store (placeBit p) vs) e ≡ frameIn store e
 unfolding frameIn
 frame-elsewhere store p vs e long inside there other fits short =
-    part-elsewhere store p (e .place) (e .len) vs long inside there other fits short
+    part-elsewhere store p (e .frame .place) (e .frame .len) vs long inside there other fits short

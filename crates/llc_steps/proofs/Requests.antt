@@ -4,13 +4,12 @@ use native.Mathlib.Omega.{arith}
 use mathlib.Core.Path.{_≡_, _∙_, refl, sym, ap, ap₂}
 use mathlib.Core.Bool.{Bool, true, false, cond, not, _&&_, _||_}
 use mathlib.Core.List.{List, [], _∷_, _++_, map}
-use mathlib.Core.Option.{none, some}
 use borrow.Author.Tests.{ltb-true}
 use lib.Dec.{eqb, ltb}
-use lib.ListN.{length, set, take, replicate, length-map}
+use lib.ListN.{length, set, take, replicate, length-map, length-append}
 use lib.Seq.{take-append-seam}
 use Rattle.bits.specs.Bits.{splice}
-use Rattle.questions.specs.Outcome.{Outcome, accepted, ask}
+use Rattle.questions.specs.Outcome.{accepted}
 use Rattle.tx_receipt.specs.declared.TxReceipt.{TxReceipt}
 use Rattle.llc_pdus.specs.Writes.{longest, frameBits}
 use Rattle.llc_pdus.specs.declared.Pdu.{Pdu}
@@ -18,7 +17,7 @@ use Rattle.llc_pdus.proofs.Framing.{frame-short}
 use Rattle.llc_pdus.specs.declared.Pdu.the-variants.{BlUdata, BlAck}
 use Rattle.llc_rule.specs.Limits.{placeBits, storePlaces}
 use Rattle.llc_rule.specs.Lists.{Found, nothing, first, others}
-use Rattle.llc_rule.specs.Calls.{Request}
+use Rattle.llc_rule.specs.Calls.{Service, tlData, tlUnitdata, Request}
 use Rattle.llc_rule.specs.Ranges.{steals, wantsFcs}
 use Rattle.llc_rule.specs.Records.{Sent}
 use Rattle.llc_rule.specs.Messages as Rule
@@ -29,7 +28,8 @@ use Rattle.llc_rule.specs.Step as Step
 use Rattle.llc_rule.specs.Step.{onAcknowledgedPath}
 use Rattle.llc_rule.specs.Sound.{All}
 use Rattle.llc_rule.proofs.Lists.{by-test, ap-cond, all-map}
-use Rattle.llc_state.specs.View.{placeBit, frameIn, sentIn, messageIn, dueIn, placeIn, rowIn, linkIn}
+use Rattle.llc_state.specs.Progress.{newProgress}
+use Rattle.llc_state.specs.View.{placeBit, frameIn, sentWith, sentIn, messageWith, messageIn, dueIn, placeIn, rowIn, linkIn}
 use Rattle.llc_state.specs.declared.Entry.{Entry}
 use Rattle.llc_state.specs.declared.ScheduledOutAck.{ScheduledOutAck}
 use Rattle.llc_state.specs.declared.ReceiptPlace.{ReceiptPlace}
@@ -37,7 +37,7 @@ use Rattle.llc_state.specs.declared.LinkSendSeq.{LinkSendSeq}
 use Rattle.llc_state.specs.declared.State.{State}
 use Rattle.llc_steps.specs.States.{messagesOf, udataOf, acksOf, rowsOf}
 use Rattle.llc_steps.specs.Places.{freePlace}
-use Rattle.llc_steps.specs.Calls.{entryOf, carrierFor, ackFor, seqOf, withSeq, dataPdu, withAcknowledged, withUnacknowledged, withStolen, receiptFree, rowFor, onData, onUnitdata}
+use Rattle.llc_steps.specs.Calls.{entryOf, carrierFor, ackFor, seqOf, withSeq, dataPdu, withAcknowledged, withUnacknowledged, withStolen, receiptFree, rowFor, onData, onUnitdata, onRequest}
 use Rattle.llc_state.specs.Receipts.{pendingPlace, placeOf}
 use Rattle.llc_state.proofs.Maps.{map-append, map-set, mapFound, find-map, any-map, others-map}
 use Rattle.llc_steps.specs.Holds.{keptIn, Stored, Ready}
@@ -86,20 +86,7 @@ module _ (r : Request) (s : State) (store : List ℕ) (short : length (r .block)
       → sentIn after (entryOf r c k (freePlace s) (length (frameBits p (r .sdu))) ns) ≡ sentOf r c k p
   unfolding sentIn entryOf sentOf frameIn
   new-sent c k p ns after ok =
-      λ i.
-      record {
-        ssi = r .ssi;
-        type = r .type;
-        carrier = c;
-        link = k;
-        endpoint = r .endpoint;
-        handle = r .handle;
-        steal = steals r;
-        mask = cond (Rattle.llc_rule.specs.Ranges.hasMask r) (some (r .mask)) none;
-        receipt = r .receipt;
-        block = take-append-seam (r .block) (replicate (64 - length (r .block)) 0) i;
-        pdu = ok .there (length (frameBits p (r .sdu))) refl i;
-      }
+      rw (take-append-seam (r .block) (replicate (64 - length (r .block)) 0), ok .there (length (frameBits p (r .sdu))) refl)
 
   ack-for-in : Step.dueFor r (linkIn s store) ≡ mapFound dueIn (ackFor r s)
   unfolding Step.dueFor ackFor linkIn dueIn
@@ -112,33 +99,11 @@ module _ (r : Request) (s : State) (store : List ℕ) (short : length (r .block)
 
   sent-same : (after : List ℕ) (e : Entry) → frameIn after e ≡ frameIn store e → sentIn after e ≡ sentIn store e
   unfolding sentIn
-  sent-same after e f =
-      λ i.
-      record {
-        ssi = e .ssi;
-        type = e .«ssi_type»;
-        carrier = e .«carrier_num»;
-        link = e .«link_id»;
-        endpoint = e .«endpoint_id»;
-        handle = e .«req_handle»;
-        steal = e .«stealing_permission»;
-        mask = cond (e .«has_mask») (some (e .mask)) none;
-        receipt = e .receipt;
-        block = take (e .«block_len») (e .block);
-        pdu = f i;
-      }
+  sent-same after e f = ap (λ (pdu : List ℕ). sentWith pdu (e .sent)) f
 
   message-same : (after : List ℕ) (e : Entry) → frameIn after e ≡ frameIn store e → messageIn after e ≡ messageIn store e
   unfolding messageIn
-  message-same after e f =
-      λ i.
-      record {
-        sent = sent-same after e f i;
-        ns = e .ns;
-        submitted = e .«submitted_to_umac»;
-        done = cond (e .«has_umac_done») (some (e .«t_umac_done»)) none;
-        resends = e .«retransmit_count»;
-      }
+  message-same after e f = ap (λ (x : Sent). messageWith x (e .progress)) (sent-same after e f)
 
   messages-same : (pdu after : List ℕ) → Placed s store pdu after → map (messageIn after) (messagesOf s) ≡ map (messageIn store) (messagesOf s)
   messages-same pdu after ok =
@@ -157,8 +122,7 @@ module _ (r : Request) (s : State) (store : List ℕ) (short : length (r .block)
       → Placed s store (frameBits p (r .sdu)) after
       → messageIn after (entryOf r c k (freePlace s) (length (frameBits p (r .sdu))) ns) ≡ Rule.waiting (sentOf r c k p) ns
   unfolding messageIn entryOf
-  new-message c k p ns after ok =
-      λ i. record { sent = new-sent c k p ns after ok i; ns = ns; submitted = false; done = none; resends = 0 }
+  new-message c k p ns after ok = ap (λ (x : Sent). messageWith x (newProgress ns)) (new-sent c k p ns after ok)
 
   with-acknowledged-in :
       Placed s store (frameBits (dataPdu r (seqOf (r .ssi) (rowsOf s)) (ackFor r s)) (r .sdu)) (withAcknowledged r s store .store)
@@ -233,7 +197,7 @@ placed :
 placed s store pdu ok few short =
     let p : ℕ = freePlace s in
     let free = free-place s (omega (arith, ok .counted .messages, ok .counted .udata)) in
-    let Q : Entry → Type 0 = λ e. eqb (e .place) p ≡ false in
+    let Q : Entry → Type 0 = λ e. eqb (e .frame .place) p ≡ false in
     let same : (e : Entry) → Stored e → Q e → frameIn (splice store (placeBit p) pdu) e ≡ frameIn store e =
     λ e in-range other. frame-elsewhere store p pdu e (ok .long) (free .0) (in-range .0) other short (omega (arith, in-range .1))
     in
@@ -242,10 +206,6 @@ placed s store pdu ok few short =
       messages = all-both Stored Q (λ (e : Entry). frameIn (splice store (placeBit p) pdu) e ≡ frameIn store e) (messagesOf s) same (ok .messages) (free .1);
       udata = all-both Stored Q (λ (e : Entry). frameIn (splice store (placeBit p) pdu) e ≡ frameIn store e) (udataOf s) same (ok .udata) (free .2);
     }
-
--- A question that is asked alike, of two that agree where it is passed.
-pub ask-same : {A : Type 0} (n : ℕ) {b c : Bool} {x y : Outcome A} → b ≡ c → (b ≡ true → x ≡ y) → ask n b x ≡ ask n c y
-ask-same n {b} {c} {x} {y} e f = ap (λ (t : Bool). ask n b x) e ∙ by-test b (λ t. rw (← e, t) (f t)) (λ t. rw (← e, t))
 
 module _ (r : Request) (s : State) (store : List ℕ) (ok : Ready s store) (block : length (r .block) ≤ 64) (sdu : length (r .sdu) ≤ longest) where
   pdu-short : (p : Pdu) → length (frameBits p (r .sdu)) ≤ placeBits
@@ -301,12 +261,10 @@ module _ (r : Request) (s : State) (store : List ℕ) (ok : Ready s store) (bloc
   stolen-kept nothing room = unacknowledged-kept 0 (BlUdata false) (acksOf s) room
   stolen-kept (first d ds) room = unacknowledged-kept (r .link) (BlAck (wantsFcs r) (d .nr)) ds room
 
-  pub unitdata-in : keptIn (onUnitdata r s store) ≡ Step.onUnitdata r (linkIn s store)
+  unitdata-in : keptIn (onUnitdata r s store) ≡ Step.onUnitdata r (linkIn s store)
   unfolding onUnitdata Step.onUnitdata linkIn
   unitdata-in =
-      kept-ask 6 (receiptFree r s) _
-      ∙ ask-same 6 receipt-in
-      (λ t. kept-ask 8 (ltb (s .«n_udata») 32) _ ∙ ask-same 8 udata-room (λ u. unacknowledged-kept (r .link) (BlUdata false) (acksOf s) u))
+      kept-ask 6 _ receipt-in (λ t. kept-ask 8 _ udata-room (λ u. unacknowledged-kept (r .link) (BlUdata false) (acksOf s) u))
 
   off-path :
       ltb (s .«n_udata») 32 ≡ true
@@ -321,16 +279,15 @@ module _ (r : Request) (s : State) (store : List ℕ) (ok : Ready s store) (bloc
       ∙ ap (λ (x : Found Due). accepted (done (Step.withStolen r (linkIn s store) x) [])) (sym (ack-for-in r s store block))))
       (λ t. rw t (stolen-kept nothing u))
 
-  pub data-in : keptIn (onData r s store) ≡ Step.onData r (linkIn s store)
+  data-in : keptIn (onData r s store) ≡ Step.onData r (linkIn s store)
   unfolding onData Step.onData
   data-in =
-      kept-ask 6 (receiptFree r s) _
-      ∙ ask-same 6 receipt-in
+      kept-ask 6 _ receipt-in
       (λ t.
       by-test (onAcknowledgedPath r)
-      (λ p.
-      rw p
-      (kept-ask 7 (rowFor r s) _
-      ∙ ask-same 7 row-in
-      (λ q. kept-ask 8 (ltb (s .«n_messages») 64) _ ∙ ask-same 8 messages-room (λ u. acknowledged-kept u))))
-      (λ p. rw p (kept-ask 8 (ltb (s .«n_udata») 32) _ ∙ ask-same 8 udata-room (λ u. off-path u))))
+      (λ p. rw p (kept-ask 7 _ row-in (λ q. kept-ask 8 _ messages-room (λ u. acknowledged-kept u))))
+      (λ p. rw p (kept-ask 8 _ udata-room (λ u. off-path u))))
+
+  pub request-in : (v : Service) → keptIn (onRequest v r s store) ≡ Step.onRequest v r (linkIn s store)
+  request-in tlData = data-in
+  request-in tlUnitdata = unitdata-in

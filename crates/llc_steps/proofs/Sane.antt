@@ -9,11 +9,11 @@ use lib.Dec.{eqb}
 use lib.ListN.{length}
 use Rattle.questions.specs.Outcome.{Outcome, accepted, refused}
 use Rattle.llc_rule.specs.Limits.{storeBytes}
-use Rattle.llc_rule.specs.Calls.{Call, start, tickStart, tickEnd, dataRequest, unitdataRequest, frame, report, release, parsed}
+use Rattle.llc_rule.specs.Calls.{Call, start, tickStart, tickEnd, request, frame, byReceipt, isStart, parsed}
+use Rattle.questions.proofs.Asked.{by-question}
 use Rattle.llc_rule.specs.Ranges.{inRange}
 use Rattle.llc_rule.specs.Received.{received}
 use Rattle.llc_rule.specs.Sound.{All}
-use Rattle.llc_rule.specs.Step.{isStart}
 use Rattle.llc_rule.proofs.Values.{CallFits, CallFitsIn, parsed-fits}
 use Rattle.llc_state.specs.Ranges as Ranges
 use Rattle.llc_state.specs.States.{emptyState, newState}
@@ -21,10 +21,9 @@ use Rattle.llc_state.specs.declared.State.{State}
 use Rattle.llc_state.proofs.View.{new-in-range, started-in-range, time-in-range}
 use Rattle.llc_steps.specs.Steps.{acts, called, steps}
 use Rattle.llc_steps.specs.Sane.{Sane, SaneAfter}
-use Rattle.llc_steps.proofs.SaneRelaid.{ask-sane}
 use Rattle.llc_steps.proofs.SaneTickEnd.{ticked-sane}
-use Rattle.llc_steps.proofs.SaneRequests.{data-sane, unitdata-sane}
-use Rattle.llc_steps.proofs.SaneCalls.{received-sane, report-sane, release-sane}
+use Rattle.llc_steps.proofs.SaneRequests.{request-sane}
+use Rattle.llc_steps.proofs.SaneCalls.{received-sane, receipt-sane}
 
 empty-sane :
     (started : Bool) (carrier t251 : ℕ) (store : List ℕ)
@@ -54,17 +53,16 @@ acts-sane (tickStart time) s store ok v on r =
       long = ok .long;
     }
 acts-sane tickEnd s store ok v on r = ticked-sane s store ok on
-acts-sane (dataRequest q) s store ok v on r = data-sane q s store ok (v .ssi) r
-acts-sane (unitdataRequest q) s store ok v on r = unitdata-sane q s store ok (v .ssi) r
+acts-sane (request w q) s store ok v on r = request-sane q s store ok (v .ssi) r w
 acts-sane (frame f) s store ok v on r = received-sane f s store ok (v .ssi) r (received (f .pdu))
-acts-sane (report receipt how) s store ok v on r = report-sane s store ok receipt how
-acts-sane (release receipt) s store ok v on r = release-sane s store ok receipt
+acts-sane (byReceipt i a) s store ok v on r = receipt-sane s store ok i a
 
 called-sane : (o : Outcome Call) (s : State) (store : List ℕ) → Sane s store → CallFitsIn o → SaneAfter (called s store o)
 unfolding called
 called-sane (refused n) s store ok v = tt
 called-sane (accepted c) s store ok v =
-    ask-sane 4 (isStart c || s .started) _ (λ t. ask-sane 5 (inRange c) _ (λ r. acts-sane c s store ok v t r))
+    by-question SaneAfter 4 (isStart c || s .started) tt
+    (λ t. by-question SaneAfter 5 (inRange c) tt (λ r. acts-sane c s store ok v t r))
 
 -- What a call of any bytes leaves of a state and a store that passed question 1 passes it.
 pub steps-sane :

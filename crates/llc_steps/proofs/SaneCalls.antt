@@ -1,15 +1,16 @@
 -- What a frame, a report and a release leave of a state that passed question 1 passes it.
 use Prim.Native.Nat.{ℕ, _≤_, _<_}
 use native.Mathlib.Omega.{arith}
-use mathlib.Core.Path.{_≡_, _∙_}
+use mathlib.Core.Path.{_≡_}
 use mathlib.Core.Bool.{Bool, true, not, _&&_}
 use mathlib.Core.List.{List, _∷_}
 use mathlib.Core.Option.{Option, none, some}
 use borrow.Author.Tests.{ltb-true, lt-ltb, le-leb}
-use lib.Dec.{eqb, leb}
+use lib.Dec.{leb}
 use lib.IntN.{negsuc}
-use lib.ListN.{length, length-set}
+use lib.ListN.{length}
 use Rattle.questions.specs.Outcome.{Outcome, accepted, refused}
+use Rattle.questions.proofs.Asked.{by-question}
 use Rattle.tdma_time.specs.Slots.{plus}
 use Rattle.tdma_time.specs.declared.TdmaTime.{TdmaTime}
 use Rattle.tdma_time.proofs.Laws.{plus-valid}
@@ -19,22 +20,21 @@ use Rattle.tx_receipt.specs.Marks as Marks
 use Rattle.tx_receipt.specs.declared.TxState.the-variants.{Pending}
 use Rattle.llc_rule.specs.Limits.{longestFrame}
 use Rattle.llc_rule.specs.Lists.{Found, nothing, first}
-use Rattle.llc_rule.specs.Calls.{Frame}
-use Rattle.llc_rule.specs.Messages.{slotBefore}
+use Rattle.llc_rule.specs.Calls.{Action, report, release, Frame}
+use Rattle.llc_rule.specs.Messages.{slotBefore, markOf}
 use Rattle.llc_rule.specs.Ranges.{isType, frameInRange}
 use Rattle.llc_rule.specs.Received.{Received, nsOf, nrOf}
 use Rattle.llc_rule.proofs.Lists.{both, either, FoundBy, find-by}
 use Rattle.llc_state.specs.Ranges.{ackInRange, messageInRange}
 use Rattle.llc_state.specs.Receipts.{receiptOf, placeOf}
-use Rattle.llc_state.specs.States.{noReceipt}
 use Rattle.llc_state.specs.declared.Entry.{Entry}
 use Rattle.llc_state.specs.declared.ScheduledOutAck.{ScheduledOutAck}
 use Rattle.llc_state.specs.declared.ReceiptPlace.{ReceiptPlace}
 use Rattle.llc_state.specs.declared.State.{State}
 use Rattle.llc_steps.specs.States.{messagesOf, udataOf, acksOf, rowsOf, relaid}
-use Rattle.llc_steps.specs.Calls.{ackRoom, scheduled, expected, fits, mayFinish, answeredBy, answered, onReceived, held, waits, onReport, onRelease}
+use Rattle.llc_steps.specs.Calls.{ackRoom, scheduled, expected, fits, mayFinish, answeredBy, answered, onReceived, held, waits, onReport, onRelease, onReceipt}
 use Rattle.llc_steps.specs.Sane.{Sane, SaneAfter}
-use Rattle.llc_steps.proofs.SaneRelaid.{Used, one-more, found-first, behind-first, sane-ready, Full, places-full, marked-full, freed-full, messages-used, udata-used, acks-used, rows-used, relaid-sane, receipts-sane, ask-sane}
+use Rattle.llc_steps.proofs.SaneRelaid.{Used, one-more, found-first, behind-first, sane-ready, Full, places-full, marked-full, freed-full, messages-used, udata-used, acks-used, rows-used, relaid-sane, receipts-sane}
 
 -- Frames ------------------------------------------------------------------------------------------------------------------
 
@@ -84,7 +84,7 @@ module _ (f : Frame) (s : State) (store : List ℕ) (ok : Sane s store) (ssi : f
   answered-by-sane nr p (first e es) ds by d =
       let moved = found-first messageInRange 64 p (messagesOf s) e es by (messages-used s store ok) in
       either (λ (t : State). Sane t store) (fits nr e)
-      (with-sane es ds _ (behind-first messageInRange 64 e es moved) d (marked-full Marks.acknowledged (e .receipt) (s .receipts) (places-full s store ok)))
+      (with-sane es ds _ (behind-first messageInRange 64 e es moved) d (marked-full Marks.acknowledged (e .sent .receipt) (s .receipts) (places-full s store ok)))
       (with-sane (e ∷ es) ds (s .receipts) moved d (places-full s store ok))
 
   answered-sane : (x : Option Bool) (ds : List ScheduledOutAck) → Used ackInRange 64 ds → Sane (answered f x ds s) store
@@ -96,26 +96,26 @@ module _ (f : Frame) (s : State) (store : List ℕ) (ok : Sane s store) (ssi : f
   unfolding onReceived
   received-sane (refused n) = tt
   received-sane (accepted r) =
-      ask-sane 13 (ackRoom (nsOf (r .header)) s) _
+      by-question SaneAfter 13 (ackRoom (nsOf (r .header)) s) tt
       (λ room.
-      ask-sane 14 (mayFinish f (nrOf (r .header)) s) _
+      by-question SaneAfter 14 (mayFinish f (nrOf (r .header)) s) tt
       (λ may. answered-sane (nrOf (r .header)) (scheduled f (nsOf (r .header)) s) (scheduled-used (nsOf (r .header)) room)))
 
 -- Reports and releases ----------------------------------------------------------------------------------------------------
 
 module _ (s : State) (store : List ℕ) (ok : Sane s store) where
-  pub report-sane : (i how : ℕ) → SaneAfter (onReport i how s store)
+  report-sane : (i how : ℕ) → SaneAfter (onReport i how s store)
   unfolding onReport
   report-sane i how =
-      ask-sane 15 (placeOf (s .receipts) i .taken && is Pending (receiptOf (placeOf (s .receipts) i)) && not (waits i s)) _
-      (λ t.
-      receipts-sane s store ok _
-      (either Full (eqb how 1)
-      (marked-full Marks.transmitted i (s .receipts) (places-full s store ok))
-      (marked-full Marks.discarded i (s .receipts) (places-full s store ok))))
+      by-question SaneAfter 15 (placeOf (s .receipts) i .taken && is Pending (receiptOf (placeOf (s .receipts) i)) && not (waits i s)) tt
+      (λ t. receipts-sane s store ok _ (marked-full (markOf how) i (s .receipts) (places-full s store ok)))
 
-  pub release-sane : (i : ℕ) → SaneAfter (onRelease i s store)
+  release-sane : (i : ℕ) → SaneAfter (onRelease i s store)
   unfolding onRelease
   release-sane i =
-      ask-sane 16 (placeOf (s .receipts) i .taken && final (receiptOf (placeOf (s .receipts) i)) && not (held i s)) _
+      by-question SaneAfter 16 (placeOf (s .receipts) i .taken && final (receiptOf (placeOf (s .receipts) i)) && not (held i s)) tt
       (λ t. receipts-sane s store ok _ (freed-full i (s .receipts) (places-full s store ok)))
+
+  pub receipt-sane : (i : ℕ) (a : Action) → SaneAfter (onReceipt i a s store)
+  receipt-sane i (report how) = report-sane i how
+  receipt-sane i release = release-sane i

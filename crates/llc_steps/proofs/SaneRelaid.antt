@@ -2,12 +2,11 @@
 use Prim.Native.Nat.{ℕ, zero, suc, _*_, _≤_}
 use native.Mathlib.Omega.{arith}
 use mathlib.Core.Path.{_≡_, _∙_, refl, ap}
-use mathlib.Core.Bool.{Bool, true, false}
+use mathlib.Core.Bool.{Bool, true}
 use mathlib.Core.List.{List, [], _∷_, _++_}
 use lib.Dec.{ltb}
 use lib.ListN.{length, set, take, length-append, length-set}
 use lib.Seq.{length-take-le}
-use Rattle.questions.specs.Outcome.{Outcome, ask}
 use Rattle.tx_receipt.specs.States.{number}
 use Rattle.tx_receipt.specs.Marks.{Mark, marked}
 use Rattle.tx_receipt.specs.declared.TxState.{TxState}
@@ -26,9 +25,9 @@ use Rattle.llc_state.specs.declared.ReceiptPlace.{ReceiptPlace}
 use Rattle.llc_state.specs.declared.LinkSendSeq.{LinkSendSeq}
 use Rattle.llc_state.specs.declared.State.{State}
 use Rattle.llc_state.proofs.InRange.{range-tells, in-range}
-use Rattle.llc_steps.specs.States.{messagesOf, udataOf, acksOf, rowsOf, relaid, Kept}
+use Rattle.llc_steps.specs.States.{messagesOf, udataOf, acksOf, rowsOf, relaid}
 use Rattle.llc_steps.specs.Holds.{Ready}
-use Rattle.llc_steps.specs.Sane.{Sane, SaneAfter}
+use Rattle.llc_steps.specs.Sane.{Sane}
 use Rattle.llc_steps.proofs.Relaid.{take-laid}
 use Rattle.llc_steps.proofs.Ready.{ready}
 use Rattle.llc_steps.proofs.Laid.{length-laid}
@@ -208,10 +207,3 @@ module _ (s : State) (store : List ℕ) (ok : Sane s store) where
   pub receipts-sane : (ps : List ReceiptPlace) → Full ps → Sane (relaid s (messagesOf s) (udataOf s) (acksOf s) ps (rowsOf s)) store
   receipts-sane ps places =
       relaid-sane (messagesOf s) (udataOf s) (acksOf s) ps (rowsOf s) store messages-used udata-used acks-used places rows-used (ok .long)
-
--- Calls -------------------------------------------------------------------------------------------------------------------
-
--- What a call leaves behind a question.
-pub ask-sane : (n : ℕ) (b : Bool) (o : Outcome Kept) → (b ≡ true → SaneAfter o) → SaneAfter (ask n b o)
-ask-sane n true o f = f refl
-ask-sane n false o f = tt

@@ -1,7 +1,7 @@
 -- What a request leaves of a state and a store that passed question 1 passes it.
 use Prim.Native.Nat.{ℕ, suc, _+_, _≤_, _<_}
 use native.Mathlib.Omega.{arith}
-use mathlib.Core.Path.{_≡_, _∙_, refl}
+use mathlib.Core.Path.{_≡_, _∙_}
 use mathlib.Core.Bool.{Bool, true, false, not, false≢true}
 use mathlib.Core.List.{List, [], _∷_}
 use borrow.Author.Tests.{ltb-true, lt-ltb}
@@ -12,29 +12,30 @@ use Rattle.bits.proofs.Laws.{length-splice}
 use Rattle.questions.specs.Outcome.{accepted}
 use Rattle.llc_pdus.specs.Headers.{header, bdata, udata, ack, lengthOf}
 use Rattle.llc_pdus.specs.Writes.{longest, frameBits}
+use Rattle.questions.proofs.Asked.{by-question}
 use Rattle.llc_pdus.specs.declared.Pdu.{Pdu}
 use Rattle.llc_pdus.specs.declared.Pdu.the-variants.{BlUdata, BlAck}
 use Rattle.llc_pdus.proofs.Framing.{frame-least, frame-most, frame-short}
 use Rattle.llc_rule.specs.Limits.{storePlaces}
 use Rattle.llc_rule.specs.Lists.{any, Found, nothing, first, others}
-use Rattle.llc_rule.specs.Calls.{Request}
+use Rattle.llc_rule.specs.Calls.{Service, tlData, tlUnitdata, Request}
 use Rattle.llc_rule.specs.Ranges.{steals, wantsFcs, hasMask, requestInRange}
 use Rattle.llc_rule.specs.Sound.{All}
 use Rattle.llc_rule.specs.Step.{onAcknowledgedPath}
-use Rattle.llc_rule.proofs.Lists.{by-test, by-choice, either, clash, find-by}
+use Rattle.llc_rule.proofs.Lists.{by-test, by-choice, either, find-by}
 use Rattle.llc_rule.proofs.Ranges.{request-fields, request-lengths}
-use Rattle.llc_state.specs.Ranges.{entryInRange, messageInRange, udataInRange, ackInRange, rowInRange}
+use Rattle.llc_state.specs.Ranges.{sentInRange, entryInRange, messageInRange, udataInRange, ackInRange, rowInRange}
 use Rattle.llc_state.specs.View.{placeBit}
 use Rattle.llc_state.specs.declared.ScheduledOutAck.{ScheduledOutAck}
 use Rattle.llc_state.specs.declared.LinkSendSeq.{LinkSendSeq}
 use Rattle.llc_state.specs.declared.State.{State}
-use Rattle.llc_state.proofs.InRange.{there-holds, message-holds, udata-holds}
+use Rattle.llc_state.proofs.InRange.{there-holds, new-fits, message-holds, udata-holds}
 use Rattle.llc_steps.specs.States.{messagesOf, udataOf, acksOf, rowsOf, Kept}
 use Rattle.llc_steps.specs.Places.{freePlace}
-use Rattle.llc_steps.specs.Calls.{entryOf, carrierFor, ackFor, seqOf, withSeq, dataPdu, withAcknowledged, withUnacknowledged, withStolen, receiptFree, rowFor, onData, onUnitdata}
+use Rattle.llc_steps.specs.Calls.{entryOf, carrierFor, ackFor, seqOf, withSeq, dataPdu, withAcknowledged, withUnacknowledged, withStolen, receiptFree, rowFor, onData, onUnitdata, onRequest}
 use Rattle.llc_steps.specs.Sane.{Sane, SaneAfter}
 use Rattle.llc_steps.proofs.Places.{free-place}
-use Rattle.llc_steps.proofs.SaneRelaid.{places-full, pending-full, Used, one-more, others-used, sane-ready, messages-used, udata-used, acks-used, rows-used, relaid-sane, ask-sane}
+use Rattle.llc_steps.proofs.SaneRelaid.{places-full, pending-full, Used, one-more, others-used, sane-ready, messages-used, udata-used, acks-used, rows-used, relaid-sane}
 
 -- Rows: one is set, or put last where an SSI has none.
 with-seq-in-range :
@@ -71,7 +72,7 @@ length-with-seq-there a b (r ∷ rs) h =
 module _ (r : Request) (s : State) (store : List ℕ) (ok : Sane s store) (ssi : r .ssi < 16777216) (h : requestInRange r ≡ true) where
   -- The new entry is in range, and its frame lies within the store.
   new-in-range : (c k place len : ℕ) (ns : Bool) → place < storePlaces → entryInRange (entryOf r c k place len ns) ≡ true
-  unfolding entryInRange entryOf
+  unfolding entryInRange sentInRange entryOf
   new-in-range c k place len ns inside =
       let t = request-fields r h in
       rw (lt-ltb (r .ssi) 16777216 ssi, t .type, there-holds {there = hasMask r} (λ e. t .mask), t .receipt, t .block, lt-ltb place storePlaces inside)
@@ -91,8 +92,7 @@ module _ (r : Request) (s : State) (store : List ℕ) (ok : Sane s store) (ssi :
         entry = new-in-range c 0 place (length (frameBits p (r .sdu))) ns inside;
         low = frame-least bdata p (r .sdu) low;
         high = frame-short p (r .sdu) sdu-short;
-        count = omega arith;
-        done = λ e. clash e refl;
+        progress = new-fits ns;
       })
 
   udata-in-range :
@@ -190,23 +190,27 @@ module _ (r : Request) (s : State) (store : List ℕ) (ok : Sane s store) (ssi :
   stolen-sane (first a ds) d room = unacknowledged-sane (r .link) (BlAck (wantsFcs r) (a .nr)) ds (omega arith) (omega arith) d room
 
   -- The two requests.
-  pub data-sane : SaneAfter (onData r s store)
+  data-sane : SaneAfter (onData r s store)
   unfolding onData
   data-sane =
-      ask-sane 6 (receiptFree r s) _
+      by-question SaneAfter 6 (receiptFree r s) tt
       (λ free.
       either SaneAfter (onAcknowledgedPath r)
-      (ask-sane 7 (rowFor r s) _ (λ row. ask-sane 8 (ltb (s .«n_messages») 64) _ (λ room. acknowledged-sane row room)))
-      (ask-sane 8 (ltb (s .«n_udata») 32) _
+      (by-question SaneAfter 7 (rowFor r s) tt (λ row. by-question SaneAfter 8 (ltb (s .«n_messages») 64) tt (λ room. acknowledged-sane row room)))
+      (by-question SaneAfter 8 (ltb (s .«n_udata») 32) tt
       (λ room.
       either (λ (k : Kept). SaneAfter (accepted k)) (steals r)
       (stolen-sane (ackFor r s) acks-but room)
       (stolen-sane nothing (acks-used s store ok) room))))
 
-  pub unitdata-sane : SaneAfter (onUnitdata r s store)
+  unitdata-sane : SaneAfter (onUnitdata r s store)
   unfolding onUnitdata
   unitdata-sane =
-      ask-sane 6 (receiptFree r s) _
+      by-question SaneAfter 6 (receiptFree r s) tt
       (λ free.
-      ask-sane 8 (ltb (s .«n_udata») 32) _
+      by-question SaneAfter 8 (ltb (s .«n_udata») 32) tt
       (λ room. unacknowledged-sane (r .link) (BlUdata false) (acksOf s) (omega arith) (omega arith) (acks-used s store ok) room))
+
+  pub request-sane : (v : Service) → SaneAfter (onRequest v r s store)
+  request-sane tlData = data-sane
+  request-sane tlUnitdata = unitdata-sane

@@ -1,7 +1,7 @@
 -- What a tick end leaves of a state that passed question 1 passes it.
 use Prim.Native.Nat.{ℕ, _+_, _≤_}
 use native.Mathlib.Omega.{arith}
-use mathlib.Core.Path.{_≡_, refl}
+use mathlib.Core.Path.{_≡_}
 use mathlib.Core.Bool.{Bool, true, not, _&&_}
 use mathlib.Core.List.{List, [], _∷_}
 use borrow.Author.Tests.{ltb-true}
@@ -13,16 +13,17 @@ use Rattle.tx_receipt.specs.Marks as Marks
 use Rattle.llc_rule.specs.Lists.{among, Visit, walk}
 use Rattle.llc_rule.specs.Messages.{overdue, reported}
 use Rattle.llc_rule.specs.Sound.{All}
-use Rattle.llc_rule.proofs.Lists.{by-choice, either, clash, all-append}
-use Rattle.llc_state.specs.Ranges.{entryInRange, messageInRange}
+use Rattle.llc_rule.proofs.Lists.{by-choice, either, all-append}
+use Rattle.llc_state.specs.Progress.{submittedAfter, doneAt, withProgress}
+use Rattle.llc_state.specs.Ranges.{messageInRange}
 use Rattle.llc_state.specs.Receipts.{receiptOf, placeOf}
 use Rattle.llc_state.specs.declared.Entry.{Entry}
 use Rattle.llc_state.specs.declared.ReceiptPlace.{ReceiptPlace}
 use Rattle.llc_state.specs.declared.State.{State}
-use Rattle.llc_state.proofs.InRange.{message-tells, message-holds, range-tells}
+use Rattle.llc_state.proofs.InRange.{progress-tells, submitted-fits, done-fits, message-tells, come-fits, range-tells}
 use Rattle.llc_steps.specs.States.{messagesOf, rowsOf}
 use Rattle.llc_steps.specs.Sane.{Sane}
-use Rattle.llc_steps.specs.TickEnd.{submitted, doneAt, timed, aged, retransmission, Sending, firstSending, retransmissions, firstSendings, ticked}
+use Rattle.llc_steps.specs.TickEnd.{submitted, timed, aged, retransmission, Sending, firstSending, retransmissions, firstSendings, ticked}
 use Rattle.llc_steps.proofs.SaneRelaid.{Full, places-full, Used, none-used, marked-full, messages-used, rows-used, relaid-sane}
 
 -- A visit after which at most k stay, each of which passes a test, and the state is as it has to be.
@@ -57,16 +58,11 @@ one-stays p x e = record { few = omega arith; each = (e, tt) }
 
 -- An entry stays in range where it is passed down, and where it gets its done time.
 pub submitted-in-range : (k : ℕ) (e : Entry) → k ≤ 3 → messageInRange e ≡ true → messageInRange (submitted k e) ≡ true
-unfolding entryInRange
-submitted-in-range k e few h =
-    let m = message-tells e h in
-    message-holds (submitted k e) (record { entry = m .entry; low = m .low; high = m .high; count = few; done = λ t. clash t refl })
+submitted-in-range k e few h = come-fits e (submittedAfter k (e .progress)) h (submitted-fits k (e .progress) few)
 
-pub done-in-range : (time : TdmaTime) (e : Entry) → valid time ≡ true → messageInRange e ≡ true → messageInRange (doneAt time e) ≡ true
-unfolding entryInRange
+pub done-in-range : (time : TdmaTime) (e : Entry) → valid time ≡ true → messageInRange e ≡ true → messageInRange (withProgress e (doneAt time (e .progress))) ≡ true
 done-in-range time e v h =
-    let m = message-tells e h in
-    message-holds (doneAt time e) (record { entry = m .entry; low = m .low; high = m .high; count = m .count; done = λ t. v })
+    come-fits e (doneAt time (e .progress)) h (done-fits time (e .progress) v (message-tells e h .progress))
 
 pub timed-in-range :
     (time : TdmaTime) (ps : List ReceiptPlace) (e : Entry)
@@ -75,7 +71,7 @@ pub timed-in-range :
     → messageInRange (timed time ps e) ≡ true
 timed-in-range time ps e v h =
     either (λ (x : Entry). messageInRange x ≡ true)
-    (not (e .«has_umac_done») && (placeOf ps (e .receipt) .taken && reported (receiptOf (placeOf ps (e .receipt)))))
+    (not (e .progress .«has_umac_done») && (placeOf ps (e .sent .receipt) .taken && reported (receiptOf (placeOf ps (e .sent .receipt)))))
     (done-in-range time e v h)
     h
 
@@ -86,16 +82,16 @@ aged-visited :
     → messageInRange e ≡ true
     → Visited messageInRange Full 1 (aged time t251 ps e)
 aged-visited time t251 ps e n h =
-    either (Visited messageInRange Full 1) (e .«has_umac_done» && overdue time t251 (e .«t_umac_done»))
-    (by-choice (Visited messageInRange Full 1) (ltb (e .«retransmit_count») 3)
+    either (Visited messageInRange Full 1) (e .progress .«has_umac_done» && overdue time t251 (e .progress .«t_umac_done»))
+    (by-choice (Visited messageInRange Full 1) (ltb (e .progress .«retransmit_count») 3)
     (λ t.
     record {
       stays =
-          one-stays messageInRange (submitted (e .«retransmit_count» + 1) e)
-          (submitted-in-range (e .«retransmit_count» + 1) e (omega (arith, ltb-true (e .«retransmit_count») 3 t)) h);
-      state = marked-full Marks.reset (e .receipt) ps n;
+          one-stays messageInRange (submitted (e .progress .«retransmit_count» + 1) e)
+          (submitted-in-range (e .progress .«retransmit_count» + 1) e (omega (arith, ltb-true (e .progress .«retransmit_count») 3 t)) h);
+      state = marked-full Marks.reset (e .sent .receipt) ps n;
     })
-    (λ f. record { stays = none-used messageInRange 1; state = marked-full Marks.lost (e .receipt) ps n }))
+    (λ f. record { stays = none-used messageInRange 1; state = marked-full Marks.lost (e .sent .receipt) ps n }))
     (record { stays = one-stays messageInRange e h; state = n })
 
 retransmission-visited :
@@ -115,15 +111,15 @@ FullIn s = Full (s .receipts)
 first-visited : (s : Sending) (e : Entry) → FullIn s → messageInRange e ≡ true → Visited messageInRange FullIn 1 (firstSending s e)
 unfolding firstSending
 first-visited s e n h =
-    either (Visited messageInRange FullIn 1) (e .«submitted_to_umac»)
+    either (Visited messageInRange FullIn 1) (e .progress .«submitted_to_umac»)
     (record { stays = one-stays messageInRange e h; state = n })
-    (either (Visited messageInRange FullIn 1) (among (e .ssi) (s .blocked))
+    (either (Visited messageInRange FullIn 1) (among (e .sent .ssi) (s .blocked))
     (record { stays = one-stays messageInRange e h; state = n })
     (record {
       stays =
-          one-stays messageInRange (submitted (e .«retransmit_count») e)
-          (submitted-in-range (e .«retransmit_count») e (message-tells e h .count) h);
-      state = marked-full Marks.reset (e .receipt) (s .receipts) n;
+          one-stays messageInRange (submitted (e .progress .«retransmit_count») e)
+          (submitted-in-range (e .progress .«retransmit_count») e (progress-tells (e .progress) (message-tells e h .progress) .count) h);
+      state = marked-full Marks.reset (e .sent .receipt) (s .receipts) n;
     }))
 
 -- Both passes, and the state after them.

@@ -1,10 +1,10 @@
 -- A call on a state and a store is `step` on the link that they hold.
 use Prim.Native.Nat.{ℕ}
-use mathlib.Core.Path.{_≡_, _∙_, refl, ap}
+use mathlib.Core.Path.{_≡_, refl, ap}
 use mathlib.Core.Bool.{Bool, true, _||_}
 use mathlib.Core.List.{List, []}
-use Rattle.questions.specs.Outcome.{Outcome, accepted, refused, ask}
-use Rattle.llc_rule.specs.Calls.{Call, start, tickStart, tickEnd, dataRequest, unitdataRequest, frame, report, release, parsed}
+use Rattle.questions.specs.Outcome.{Outcome, accepted, refused}
+use Rattle.llc_rule.specs.Calls.{Call, start, tickStart, tickEnd, request, frame, byReceipt, isStart, parsed}
 use Rattle.llc_rule.specs.Ranges.{inRange}
 use Rattle.llc_rule.specs.Received.{received}
 use Rattle.llc_rule.specs.Done.{done}
@@ -17,19 +17,17 @@ use Rattle.llc_state.proofs.View.{started-in, time-in}
 use Rattle.llc_steps.specs.Steps.{acts, called, steps}
 use Rattle.llc_steps.proofs.TickEnd.{ticked-in, records-in}
 use Rattle.llc_steps.specs.Holds.{keptIn, Ready}
-use Rattle.llc_steps.proofs.Calls.{kept-ask, received-in, report-in, release-in}
-use Rattle.llc_steps.proofs.Requests.{ask-same, data-in, unitdata-in}
+use Rattle.llc_steps.proofs.Calls.{kept-ask, received-in, by-receipt-in}
+use Rattle.llc_steps.proofs.Requests.{request-in}
 
 acts-in : (c : Call) (s : State) (store : List ℕ) → Ready s store → inRange c ≡ true → keptIn (acts c s store) ≡ Step.act c (linkIn s store)
 unfolding acts Step.act keptIn inRange Step.onFrame
 acts-in (start carrier t251) s store ok r = ap (λ (l : Link.Link). accepted (done l [])) (started-in carrier t251 store)
 acts-in (tickStart time) s store ok r = ap (λ (l : Link.Link). accepted (done l [])) (time-in s time store)
 acts-in tickEnd s store ok r = λ i. accepted (record { state = ticked-in store s i; records = records-in store s i })
-acts-in (dataRequest q) s store ok r = let n = request-lengths q r in data-in q s store ok (n .0) (n .1)
-acts-in (unitdataRequest q) s store ok r = let n = request-lengths q r in unitdata-in q s store ok (n .0) (n .1)
+acts-in (request v q) s store ok r = let n = request-lengths q r in request-in q s store ok (n .0) (n .1) v
 acts-in (frame f) s store ok r = received-in f s store (ok .counted) (received (f .pdu))
-acts-in (report receipt how) s store ok r = report-in s store receipt how
-acts-in (release receipt) s store ok r = release-in s store receipt
+acts-in (byReceipt i a) s store ok r = by-receipt-in s store i a
 
 started-is : (s : State) (store : List ℕ) → s .started ≡ linkIn s store .started
 unfolding linkIn
@@ -39,9 +37,7 @@ called-in : (c : Outcome Call) (s : State) (store : List ℕ) → Ready s store 
 unfolding called Step.called keptIn
 called-in (refused n) s store ok = refl
 called-in (accepted c) s store ok =
-    kept-ask 4 (Step.isStart c || s .started) (ask 5 (inRange c) (acts c s store))
-    ∙ ask-same 4 (ap (λ (b : Bool). Step.isStart c || b) (started-is s store))
-    (λ t. kept-ask 5 (inRange c) (acts c s store) ∙ ask-same 5 refl (λ r. acts-in c s store ok r))
+    kept-ask 4 _ (ap (λ (b : Bool). isStart c || b) (started-is s store)) (λ t. kept-ask 5 _ refl (λ r. acts-in c s store ok r))
 
 -- What a call on a state and a store gives, as a link, is what `step` gives on the link that they hold.
 pub steps-in : (s : State) (store : List ℕ) → Ready s store → (bytes : List ℕ) → keptIn (steps s store bytes) ≡ Step.step (linkIn s store) bytes

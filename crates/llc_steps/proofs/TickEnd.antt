@@ -15,6 +15,7 @@ use Rattle.llc_rule.specs.Messages.{Message, Place, overdue, reported, replyTo}
 use Rattle.llc_rule.specs.Link as Link
 use Rattle.llc_rule.specs.Step as Step
 use Rattle.llc_rule.proofs.Lists.{ap-cond}
+use Rattle.llc_state.specs.Progress.{doneAt, withProgress}
 use Rattle.llc_state.specs.View.{frameIn, sentIn, messageIn, dueIn, placeIn, rowIn, linkIn}
 use Rattle.llc_state.specs.declared.Entry.{Entry}
 use Rattle.llc_state.specs.declared.ReceiptPlace.{ReceiptPlace}
@@ -24,7 +25,7 @@ use Rattle.llc_state.specs.Receipts.{receiptOf, placeOf, mark}
 use Rattle.llc_state.proofs.Places.{mark-in, taken-in}
 use Rattle.llc_state.proofs.Maps.{map-append, map-map}
 use Rattle.llc_steps.proofs.Relaid.{relaid-in}
-use Rattle.llc_steps.specs.TickEnd.{submitted, doneAt, timed, stay, resend, leave, aged, retransmission, Sending, firstSending, retransmissions, firstSendings, ticked, tickRecords}
+use Rattle.llc_steps.specs.TickEnd.{submitted, timed, stay, resend, leave, aged, retransmission, Sending, firstSending, retransmissions, firstSendings, ticked, tickRecords}
 
 -- A walk seen through views of its state, its elements and what it puts out.
 module _ {S T A B R Q : Type 0} (state : S → T) (element : A → B) (put : R → Q) where
@@ -63,11 +64,11 @@ module _ (store : List ℕ) where
   unfolding messageIn sentIn frameIn
   timed-in time ps e =
       let test : Bool =
-      not (e .«has_umac_done») && (placeOf ps (e .receipt) .taken && reported (receiptOf (placeOf ps (e .receipt))))
+      not (e .progress .«has_umac_done») && (placeOf ps (e .sent .receipt) .taken && reported (receiptOf (placeOf ps (e .sent .receipt))))
       in
       ap₂ (λ (x y : Bool). cond (not x && y) (Rule.doneAt time (messageIn store e)) (messageIn store e))
-      (has-time (e .«has_umac_done») (e .«t_umac_done»)) (sym (taken-in reported ps (e .receipt)))
-      ∙ sym (ap-cond (messageIn store) test (doneAt time e) e)
+      (has-time (e .progress .«has_umac_done») (e .progress .«t_umac_done»)) (sym (taken-in reported ps (e .sent .receipt)))
+      ∙ sym (ap-cond (messageIn store) test (withProgress e (doneAt time (e .progress))) e)
 
   stay-in : (ps : List ReceiptPlace) (e : Entry) → Step.stay (map placeIn ps) (messageIn store e) ≡ viewed₁ (stay ps e)
   stay-in ps e = refl
@@ -77,14 +78,14 @@ module _ (store : List ℕ) where
   resend-in ps e =
       λ i.
       record {
-        state = sym (mark-in Marks.reset (e .receipt) ps) i;
-        stays = messageIn store (submitted (sym (add-one (e .«retransmit_count»)) i) e) ∷ [];
+        state = sym (mark-in Marks.reset (e .sent .receipt) ps) i;
+        stays = messageIn store (submitted (sym (add-one (e .progress .«retransmit_count»)) i) e) ∷ [];
         out = handed e ∷ [];
       }
 
   leave-in : (ps : List ReceiptPlace) (e : Entry) → Step.leave (map placeIn ps) (messageIn store e) ≡ viewed₁ (leave ps e)
   unfolding messageIn sentIn frameIn
-  leave-in ps e = λ i. record { state = sym (mark-in Marks.lost (e .receipt) ps) i; stays = []; out = [] }
+  leave-in ps e = λ i. record { state = sym (mark-in Marks.lost (e .sent .receipt) ps) i; stays = []; out = [] }
 
   aged-by :
       (time : TdmaTime) (t251 : ℕ) (ps : List Place) (m : Message) (b : Bool) (t : TdmaTime)
@@ -98,9 +99,9 @@ module _ (store : List ℕ) where
       → Step.agedBy time t251 (map placeIn ps) (messageIn store e) (messageIn store e .done) ≡ viewed₁ (aged time t251 ps e)
   unfolding messageIn
   aged-in time t251 ps e =
-      let due : Bool = e .«has_umac_done» && overdue time t251 (e .«t_umac_done») in
-      let more : Bool = ltb (e .«retransmit_count») 3 in
-      aged-by time t251 (map placeIn ps) (messageIn store e) (e .«has_umac_done») (e .«t_umac_done»)
+      let due : Bool = e .progress .«has_umac_done» && overdue time t251 (e .progress .«t_umac_done») in
+      let more : Bool = ltb (e .progress .«retransmit_count») 3 in
+      aged-by time t251 (map placeIn ps) (messageIn store e) (e .progress .«has_umac_done») (e .progress .«t_umac_done»)
       ∙ ap₂ (cond due)
       (ap₂ (cond more) (resend-in ps e) (leave-in ps e) ∙ sym (ap-cond viewed₁ more (resend ps e) (leave ps e)))
       (stay-in ps e)
@@ -124,33 +125,33 @@ module _ (store : List ℕ) where
   first-in : (s : Sending) (e : Entry) → Step.firstSending (sendingIn s) (messageIn store e) ≡ viewed₂ (firstSending s e)
   unfolding Step.firstSending firstSending messageIn sentIn frameIn
   first-in s e =
-      let going : Visit Sending Entry Entry = stay (record { receipts = s .receipts; blocked = e .ssi ∷ s .blocked }) e in
+      let going : Visit Sending Entry Entry = stay (record { receipts = s .receipts; blocked = e .sent .ssi ∷ s .blocked }) e in
       let sending : Visit Sending Entry Entry =
       record {
-        state = record { receipts = mark Marks.reset (e .receipt) (s .receipts); blocked = e .ssi ∷ s .blocked };
-        stays = submitted (e .«retransmit_count») e ∷ [];
+        state = record { receipts = mark Marks.reset (e .sent .receipt) (s .receipts); blocked = e .sent .ssi ∷ s .blocked };
+        stays = submitted (e .progress .«retransmit_count») e ∷ [];
         out = e ∷ [];
       }
       in
-      let test : Bool = among (e .ssi) (s .blocked) in
+      let test : Bool = among (e .sent .ssi) (s .blocked) in
       let sending-in : Visit Step.Sending Message Record =
       record {
-        state = record { receipts = Rule.mark Marks.reset (e .receipt) (map placeIn (s .receipts)); blocked = e .ssi ∷ s .blocked };
-        stays = messageIn store (submitted (e .«retransmit_count») e) ∷ [];
+        state = record { receipts = Rule.mark Marks.reset (e .sent .receipt) (map placeIn (s .receipts)); blocked = e .sent .ssi ∷ s .blocked };
+        stays = messageIn store (submitted (e .progress .«retransmit_count») e) ∷ [];
         out = handed e ∷ [];
       }
       in
       let sent : sending-in ≡ viewed₂ sending =
       λ i.
       record {
-        state = record { receipts = sym (mark-in Marks.reset (e .receipt) (s .receipts)) i; blocked = e .ssi ∷ s .blocked };
-        stays = messageIn store (submitted (e .«retransmit_count») e) ∷ [];
+        state = record { receipts = sym (mark-in Marks.reset (e .sent .receipt) (s .receipts)) i; blocked = e .sent .ssi ∷ s .blocked };
+        stays = messageIn store (submitted (e .progress .«retransmit_count») e) ∷ [];
         out = handed e ∷ [];
       }
       in
-      ap₂ (cond (e .«submitted_to_umac»)) refl
+      ap₂ (cond (e .progress .«submitted_to_umac»)) refl
       (ap₂ (cond test) refl sent ∙ sym (ap-cond viewed₂ test (stay s e) sending))
-      ∙ sym (ap-cond viewed₂ (e .«submitted_to_umac») going (cond test (stay s e) sending))
+      ∙ sym (ap-cond viewed₂ (e .progress .«submitted_to_umac») going (cond test (stay s e) sending))
 
   -- The two passes of a state.
   retransmissions-in : (s : State) → Step.retransmissions (linkIn s store) ≡ viewed₁ (retransmissions s)

@@ -1,6 +1,8 @@
 -- Laws of a state with other elements in use.
 use Prim.Native.Nat.{ℕ, _≤_}
-use mathlib.Core.Path.{_≡_, refl, ap₂}
+use native.Mathlib.Omega.{arith}
+use mathlib.Core.Path.{_≡_, _∙_, refl, ap, ap₂}
+use mathlib.Core.Bool.{true}
 use mathlib.Core.List.{List}
 use lib.ListN.{length}
 use lib.Seq.{length-take-le}
@@ -9,83 +11,14 @@ use Rattle.llc_state.specs.declared.ScheduledOutAck.{ScheduledOutAck}
 use Rattle.llc_state.specs.declared.ReceiptPlace.{ReceiptPlace}
 use Rattle.llc_state.specs.declared.LinkSendSeq.{LinkSendSeq}
 use Rattle.llc_state.specs.declared.State.{State}
+use Rattle.llc_state.specs.Ranges.{inRange}
 use Rattle.llc_state.specs.Receipts.{withPlaces}
 use Rattle.llc_state.specs.States.{noEntry, noAck, noRow}
-use Rattle.llc_steps.specs.States.{messagesOf, udataOf, acksOf, rowsOf, withMessages, withUdata, withAcks, withRows, relaid}
+use Rattle.llc_state.proofs.InRange.{range-tells}
+use Rattle.llc_state.proofs.Lengths.{Lengths}
+use Rattle.llc_steps.specs.States.{messagesOf, udataOf, acksOf, rowsOf, putMessages, putUdata, putAcks, putRows, withMessages, withUdata, withAcks, withRows, relaid}
+use Rattle.llc_steps.specs.Calls.{withReceipts}
 use Rattle.llc_steps.proofs.Laid.{laid-same}
-
--- A state with another array and number in use: of messages, of unacknowledged ones, of acknowledgements due, of rows.
-abbrev pub putMessages : State → ℕ → List Entry → State
-putMessages s n l =
-    record {
-      started = s .started;
-      «main_carrier» = s .«main_carrier»;
-      t251 = s .t251;
-      dltime = s .dltime;
-      «n_messages» = n;
-      «outbound_messages» = l;
-      «n_udata» = s .«n_udata»;
-      «outbound_udata_messages» = s .«outbound_udata_messages»;
-      «n_acks» = s .«n_acks»;
-      «scheduled_out_acks» = s .«scheduled_out_acks»;
-      receipts = s .receipts;
-      «n_rows» = s .«n_rows»;
-      «link_send_seq» = s .«link_send_seq»;
-    }
-
-abbrev pub putUdata : State → ℕ → List Entry → State
-putUdata s n l =
-    record {
-      started = s .started;
-      «main_carrier» = s .«main_carrier»;
-      t251 = s .t251;
-      dltime = s .dltime;
-      «n_messages» = s .«n_messages»;
-      «outbound_messages» = s .«outbound_messages»;
-      «n_udata» = n;
-      «outbound_udata_messages» = l;
-      «n_acks» = s .«n_acks»;
-      «scheduled_out_acks» = s .«scheduled_out_acks»;
-      receipts = s .receipts;
-      «n_rows» = s .«n_rows»;
-      «link_send_seq» = s .«link_send_seq»;
-    }
-
-abbrev pub putAcks : State → ℕ → List ScheduledOutAck → State
-putAcks s n l =
-    record {
-      started = s .started;
-      «main_carrier» = s .«main_carrier»;
-      t251 = s .t251;
-      dltime = s .dltime;
-      «n_messages» = s .«n_messages»;
-      «outbound_messages» = s .«outbound_messages»;
-      «n_udata» = s .«n_udata»;
-      «outbound_udata_messages» = s .«outbound_udata_messages»;
-      «n_acks» = n;
-      «scheduled_out_acks» = l;
-      receipts = s .receipts;
-      «n_rows» = s .«n_rows»;
-      «link_send_seq» = s .«link_send_seq»;
-    }
-
-abbrev pub putRows : State → ℕ → List LinkSendSeq → State
-putRows s n l =
-    record {
-      started = s .started;
-      «main_carrier» = s .«main_carrier»;
-      t251 = s .t251;
-      dltime = s .dltime;
-      «n_messages» = s .«n_messages»;
-      «outbound_messages» = s .«outbound_messages»;
-      «n_udata» = s .«n_udata»;
-      «outbound_udata_messages» = s .«outbound_udata_messages»;
-      «n_acks» = s .«n_acks»;
-      «scheduled_out_acks» = s .«scheduled_out_acks»;
-      receipts = s .receipts;
-      «n_rows» = n;
-      «link_send_seq» = l;
-    }
 
 -- A state whose elements in use are as they were is as it was.
 pub same-messages : (s : State) → s .«n_messages» ≤ length (s .«outbound_messages») → withMessages s (messagesOf s) ≡ s
@@ -118,3 +51,42 @@ pub relaid-is :
     → relaid s ms us ds ps rs ≡ withRows (withPlaces (withAcks (withUdata (withMessages s ms) us) ds) ps) rs
 unfolding relaid
 relaid-is s ms us ds ps rs = refl
+
+-- The arrays hold at least the elements in use.
+pub record Counts (s : State) : Type 0 where
+  pub messages : s .«n_messages» ≤ length (s .«outbound_messages»)
+  pub udata : s .«n_udata» ≤ length (s .«outbound_udata_messages»)
+  pub acks : s .«n_acks» ≤ length (s .«scheduled_out_acks»)
+  pub rows : s .«n_rows» ≤ length (s .«link_send_seq»)
+
+pub counts : (s : State) → inRange s ≡ true → Lengths s → Counts s
+counts s h l =
+    let r = range-tells s h .head in
+    record {
+      messages = omega (arith, r .messages, l .messages);
+      udata = omega (arith, r .udata, l .udata);
+      acks = omega (arith, r .acks, l .acks);
+      rows = omega (arith, r .rows, l .rows);
+    }
+
+-- Other messages, acknowledgements due and receipts.
+pub relaid-some :
+    (s : State) (ms : List Entry) (ds : List ScheduledOutAck) (ps : List ReceiptPlace)
+    → Counts s
+    → relaid s ms (udataOf s) ds ps (rowsOf s) ≡ withPlaces (withAcks (withMessages s ms) ds) ps
+relaid-some s ms ds ps c =
+    relaid-is s ms (udataOf s) ds ps (rowsOf s)
+    ∙ ap (λ (t : State). withRows (withPlaces (withAcks t ds) ps) (rowsOf s)) (same-udata (withMessages s ms) (c .udata))
+    ∙ same-rows (withPlaces (withAcks (withMessages s ms) ds) ps) (c .rows)
+
+-- Other acknowledgements due and receipts; other receipts alone.
+pub relaid-acks :
+    (s : State) (ds : List ScheduledOutAck) (ps : List ReceiptPlace)
+    → Counts s
+    → relaid s (messagesOf s) (udataOf s) ds ps (rowsOf s) ≡ withPlaces (withAcks s ds) ps
+relaid-acks s ds ps c =
+    relaid-some s (messagesOf s) ds ps c ∙ ap (λ (t : State). withPlaces (withAcks t ds) ps) (same-messages s (c .messages))
+
+pub relaid-places : (s : State) (ps : List ReceiptPlace) → Counts s → withReceipts s ps ≡ withPlaces s ps
+relaid-places s ps c =
+    relaid-acks s (acksOf s) ps c ∙ ap (λ (t : State). withPlaces t ps) (same-acks s (c .acks))

@@ -7,7 +7,6 @@ use lib.Dec.{eqb, ltb}
 use lib.ListN.{length, set, replicate}
 use Rattle.bits.specs.Bits.{splice}
 use Rattle.questions.specs.Outcome.{Outcome, accepted, refused, ask}
-use Rattle.tdma_time.specs.Slots.{first}
 use Rattle.tx_receipt.specs.States.{is, final}
 use Rattle.tx_receipt.specs.Marks as Marks
 use Rattle.tx_receipt.specs.Marks.{allowed}
@@ -17,14 +16,16 @@ use Rattle.llc_pdus.specs.declared.Pdu.{Pdu}
 use Rattle.llc_pdus.specs.declared.Pdu.the-variants.{BlAdata, BlData, BlUdata, BlAck}
 use Rattle.llc_rule.specs.Lists as Lists
 use Rattle.llc_rule.specs.Lists.{any, Found, nothing, find, others}
-use Rattle.llc_rule.specs.Calls.{Request, Frame}
+use Rattle.llc_rule.specs.Calls.{Service, tlData, tlUnitdata, Action, report, release, Request, Frame}
 use Rattle.llc_rule.specs.Ranges.{steals, wantsFcs, hasMask}
 use Rattle.llc_rule.specs.Received.{Received, nsOf, nrOf, upward}
-use Rattle.llc_rule.specs.Messages.{carrierOf, slotBefore}
+use Rattle.llc_rule.specs.Messages.{carrierOf, slotBefore, markOf}
 use Rattle.llc_rule.specs.Step.{onAcknowledgedPath}
 use Rattle.llc_state.specs.States.{noReceipt}
+use Rattle.llc_state.specs.Progress.{newProgress}
 use Rattle.llc_state.specs.Receipts.{receiptOf, pendingPlace, placeOf, mark}
 use Rattle.llc_state.specs.View.{placeBit}
+use Rattle.llc_state.specs.declared.TmaUnitdataReq.{TmaUnitdataReq}
 use Rattle.llc_state.specs.declared.Entry.{Entry}
 use Rattle.llc_state.specs.declared.ScheduledOutAck.{ScheduledOutAck}
 use Rattle.llc_state.specs.declared.ReceiptPlace.{ReceiptPlace}
@@ -35,9 +36,9 @@ use Rattle.llc_steps.specs.Places.{freePlace}
 
 -- Requests ----------------------------------------------------------------------------------------------------------------
 
--- A new entry: its carrier, link id and place in the store, how many bits its frame has, its N(S).
-unfoldable pub entryOf : Request → ℕ → ℕ → ℕ → ℕ → Bool → Entry
-entryOf r carrier link place len ns =
+-- What of a request is handed down, on a carrier and with a link id.
+abbrev pub sentFor : Request → ℕ → ℕ → TmaUnitdataReq
+sentFor r carrier link =
     record {
       ssi = r .ssi;
       «ssi_type» = r .type;
@@ -51,14 +52,12 @@ entryOf r carrier link place len ns =
       receipt = r .receipt;
       «block_len» = length (r .block);
       block = r .block ++ replicate (64 - length (r .block)) 0;
-      place = place;
-      len = len;
-      ns = ns;
-      «submitted_to_umac» = false;
-      «has_umac_done» = false;
-      «t_umac_done» = first;
-      «retransmit_count» = 0;
     }
+
+-- A new entry: its carrier, link id and place in the store, how many bits its frame has, its N(S).
+unfoldable pub entryOf : Request → ℕ → ℕ → ℕ → ℕ → Bool → Entry
+entryOf r carrier link place len ns =
+    record { sent = sentFor r carrier link; frame = record { place = place; len = len }; progress = newProgress ns }
 
 abbrev pub carrierFor : Request → State → ℕ
 carrierFor r s = carrierOf (s .«main_carrier») r
@@ -132,6 +131,10 @@ onUnitdata r s b =
     ask 6 (receiptFree r s)
     (ask 8 (ltb (s .«n_udata») 32) (accepted (withUnacknowledged r (r .link) (BlUdata false) (acksOf s) s b)))
 
+abbrev pub onRequest : Service → Request → State → List ℕ → Outcome Kept
+onRequest tlData r s b = onData r s b
+onRequest tlUnitdata r s b = onUnitdata r s b
+
 -- Frames ------------------------------------------------------------------------------------------------------------------
 
 abbrev pub ackRoom : Option Bool → State → Bool
@@ -149,17 +152,17 @@ scheduled f (some ns) s =
 unfoldable pub expected : Frame → State → Found Entry
 expected f s =
     find
-    (λ (e : Entry). eqb (e .ssi) (f .ssi) && (eqb (e .«carrier_num») (f .carrier) && e .«submitted_to_umac»))
+    (λ (e : Entry). eqb (e .sent .ssi) (f .ssi) && (eqb (e .sent .«carrier_num») (f .carrier) && e .progress .«submitted_to_umac»))
     (messagesOf s)
 
 abbrev pub fits : Bool → Entry → Bool
-fits nr e = e .«has_umac_done» && Bool·beq (e .ns) nr
+fits nr e = e .progress .«has_umac_done» && Bool·beq (e .progress .ns) nr
 
 -- Question 14.
 abbrev pub finishable : Bool → Found Entry → State → Bool
 finishable nr nothing s = true
 finishable nr (Lists.first e es) s =
-    not (fits nr e) || (placeOf (s .receipts) (e .receipt) .taken && allowed Marks.acknowledged (receiptOf (placeOf (s .receipts) (e .receipt))))
+    not (fits nr e) || (placeOf (s .receipts) (e .sent .receipt) .taken && allowed Marks.acknowledged (receiptOf (placeOf (s .receipts) (e .sent .receipt))))
 
 abbrev pub mayFinish : Frame → Option Bool → State → Bool
 mayFinish f none s = true
@@ -170,7 +173,7 @@ unfoldable pub answeredBy : Bool → Found Entry → List ScheduledOutAck → St
 answeredBy nr nothing ds s = relaid s (messagesOf s) (udataOf s) ds (s .receipts) (rowsOf s)
 answeredBy nr (Lists.first e es) ds s =
     cond (fits nr e)
-    (relaid s es (udataOf s) ds (mark Marks.acknowledged (e .receipt) (s .receipts)) (rowsOf s))
+    (relaid s es (udataOf s) ds (mark Marks.acknowledged (e .sent .receipt) (s .receipts)) (rowsOf s))
     (relaid s (e ∷ es) (udataOf s) ds (s .receipts) (rowsOf s))
 
 abbrev pub answered : Frame → Option Bool → List ScheduledOutAck → State → State
@@ -188,12 +191,12 @@ onReceived f (accepted r) s b =
 -- Reports and releases ----------------------------------------------------------------------------------------------------
 
 unfoldable pub held : ℕ → State → Bool
-held i s = any (λ (e : Entry). eqb (e .receipt) i) (messagesOf s) || any (λ (e : Entry). eqb (e .receipt) i) (udataOf s)
+held i s = any (λ (e : Entry). eqb (e .sent .receipt) i) (messagesOf s) || any (λ (e : Entry). eqb (e .sent .receipt) i) (udataOf s)
 
 unfoldable pub waits : ℕ → State → Bool
 waits i s =
-    any (λ (e : Entry). eqb (e .receipt) i && not (e .«submitted_to_umac»)) (messagesOf s)
-    || any (λ (e : Entry). eqb (e .receipt) i) (udataOf s)
+    any (λ (e : Entry). eqb (e .sent .receipt) i && not (e .progress .«submitted_to_umac»)) (messagesOf s)
+    || any (λ (e : Entry). eqb (e .sent .receipt) i) (udataOf s)
 
 -- A state with other receipts.
 abbrev pub withReceipts : State → List ReceiptPlace → State
@@ -202,10 +205,13 @@ withReceipts s ps = relaid s (messagesOf s) (udataOf s) (acksOf s) ps (rowsOf s)
 unfoldable pub onReport : ℕ → ℕ → State → List ℕ → Outcome Kept
 onReport i how s b =
     ask 15 (placeOf (s .receipts) i .taken && is Pending (receiptOf (placeOf (s .receipts) i)) && not (waits i s))
-    (accepted
-    (kept (withReceipts s (cond (eqb how 1) (mark Marks.transmitted i (s .receipts)) (mark Marks.discarded i (s .receipts)))) b []))
+    (accepted (kept (withReceipts s (mark (markOf how) i (s .receipts))) b []))
 
 unfoldable pub onRelease : ℕ → State → List ℕ → Outcome Kept
 onRelease i s b =
     ask 16 (placeOf (s .receipts) i .taken && final (receiptOf (placeOf (s .receipts) i)) && not (held i s))
     (accepted (kept (withReceipts s (set (s .receipts) i noReceipt)) b []))
+
+abbrev pub onReceipt : ℕ → Action → State → List ℕ → Outcome Kept
+onReceipt i (report how) s b = onReport i how s b
+onReceipt i release s b = onRelease i s b

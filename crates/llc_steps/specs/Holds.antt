@@ -28,7 +28,7 @@ pub record Counted (s : State) : Type 0 where
 
 -- A frame lies in one of the places, with at most so many bits as the longest frame has.
 abbrev pub Stored : Entry → Type 0
-Stored e = (e .place < storePlaces) × (e .len ≤ longestSent)
+Stored e = (e .frame .place < storePlaces) × (e .frame .len ≤ longestSent)
 
 -- A state and the bits of a store of which question 1 was passed, as far as a call needs it.
 pub record Ready (s : State) (store : List ℕ) : Type 0 where

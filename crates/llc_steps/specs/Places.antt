@@ -11,8 +11,8 @@ use Rattle.llc_state.specs.declared.State.{State}
 -- The places of the messages that are held.
 unfoldable pub usedPlaces : State → List ℕ
 usedPlaces s =
-    map (λ (e : Entry). e .place) (take (s .«n_messages») (s .«outbound_messages»))
-    ++ map (λ (e : Entry). e .place) (take (s .«n_udata») (s .«outbound_udata_messages»))
+    map (λ (e : Entry). e .frame .place) (take (s .«n_messages») (s .«outbound_messages»))
+    ++ map (λ (e : Entry). e .frame .place) (take (s .«n_udata») (s .«outbound_udata_messages»))
 
 -- The first of n numbers from p on that is not among others; 0 where there is none.
 unfoldable pub firstFree : ℕ → ℕ → List ℕ → ℕ

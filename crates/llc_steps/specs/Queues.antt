@@ -32,10 +32,10 @@ abbrev pub rowOf : ℕ → LinkSendSeq → Bool
 rowOf ssi r = eqb (r .ssi) ssi
 
 abbrev pub expectedOn : ℕ → ℕ → Entry → Bool
-expectedOn ssi carrier e = eqb (e .ssi) ssi && (eqb (e .«carrier_num») carrier && e .«submitted_to_umac»)
+expectedOn ssi carrier e = eqb (e .sent .ssi) ssi && (eqb (e .sent .«carrier_num») carrier && e .progress .«submitted_to_umac»)
 
 abbrev pub withReceipt : ℕ → Entry → Bool
-withReceipt i e = eqb (e .receipt) i
+withReceipt i e = eqb (e .sent .receipt) i
 
 abbrev pub waitsWith : ℕ → Entry → Bool
-waitsWith i e = eqb (e .receipt) i && not (e .«submitted_to_umac»)
+waitsWith i e = eqb (e .sent .receipt) i && not (e .progress .«submitted_to_umac»)

@@ -25,78 +25,91 @@ acksOf s = take (s .«n_acks») (s .«scheduled_out_acks»)
 abbrev pub rowsOf : State → List LinkSendSeq
 rowsOf s = take (s .«n_rows») (s .«link_send_seq»)
 
+-- A state with another array and number in use: of messages, of unacknowledged ones, of acknowledgements due, of rows.
+abbrev pub putMessages : State → ℕ → List Entry → State
+putMessages s n l =
+    record {
+      started = s .started;
+      «main_carrier» = s .«main_carrier»;
+      t251 = s .t251;
+      dltime = s .dltime;
+      «n_messages» = n;
+      «outbound_messages» = l;
+      «n_udata» = s .«n_udata»;
+      «outbound_udata_messages» = s .«outbound_udata_messages»;
+      «n_acks» = s .«n_acks»;
+      «scheduled_out_acks» = s .«scheduled_out_acks»;
+      receipts = s .receipts;
+      «n_rows» = s .«n_rows»;
+      «link_send_seq» = s .«link_send_seq»;
+    }
+
+abbrev pub putUdata : State → ℕ → List Entry → State
+putUdata s n l =
+    record {
+      started = s .started;
+      «main_carrier» = s .«main_carrier»;
+      t251 = s .t251;
+      dltime = s .dltime;
+      «n_messages» = s .«n_messages»;
+      «outbound_messages» = s .«outbound_messages»;
+      «n_udata» = n;
+      «outbound_udata_messages» = l;
+      «n_acks» = s .«n_acks»;
+      «scheduled_out_acks» = s .«scheduled_out_acks»;
+      receipts = s .receipts;
+      «n_rows» = s .«n_rows»;
+      «link_send_seq» = s .«link_send_seq»;
+    }
+
+abbrev pub putAcks : State → ℕ → List ScheduledOutAck → State
+putAcks s n l =
+    record {
+      started = s .started;
+      «main_carrier» = s .«main_carrier»;
+      t251 = s .t251;
+      dltime = s .dltime;
+      «n_messages» = s .«n_messages»;
+      «outbound_messages» = s .«outbound_messages»;
+      «n_udata» = s .«n_udata»;
+      «outbound_udata_messages» = s .«outbound_udata_messages»;
+      «n_acks» = n;
+      «scheduled_out_acks» = l;
+      receipts = s .receipts;
+      «n_rows» = s .«n_rows»;
+      «link_send_seq» = s .«link_send_seq»;
+    }
+
+abbrev pub putRows : State → ℕ → List LinkSendSeq → State
+putRows s n l =
+    record {
+      started = s .started;
+      «main_carrier» = s .«main_carrier»;
+      t251 = s .t251;
+      dltime = s .dltime;
+      «n_messages» = s .«n_messages»;
+      «outbound_messages» = s .«outbound_messages»;
+      «n_udata» = s .«n_udata»;
+      «outbound_udata_messages» = s .«outbound_udata_messages»;
+      «n_acks» = s .«n_acks»;
+      «scheduled_out_acks» = s .«scheduled_out_acks»;
+      receipts = s .receipts;
+      «n_rows» = n;
+      «link_send_seq» = l;
+    }
+
 -- A state with other messages in use, other unacknowledged ones, other acknowledgements due, other rows.
 abbrev pub withMessages : State → List Entry → State
-withMessages s ms =
-    record {
-      started = s .started;
-      «main_carrier» = s .«main_carrier»;
-      t251 = s .t251;
-      dltime = s .dltime;
-      «n_messages» = length ms;
-      «outbound_messages» = laid noEntry (s .«n_messages») ms (s .«outbound_messages»);
-      «n_udata» = s .«n_udata»;
-      «outbound_udata_messages» = s .«outbound_udata_messages»;
-      «n_acks» = s .«n_acks»;
-      «scheduled_out_acks» = s .«scheduled_out_acks»;
-      receipts = s .receipts;
-      «n_rows» = s .«n_rows»;
-      «link_send_seq» = s .«link_send_seq»;
-    }
+withMessages s ms = putMessages s (length ms) (laid noEntry (s .«n_messages») ms (s .«outbound_messages»))
 
 abbrev pub withUdata : State → List Entry → State
-withUdata s us =
-    record {
-      started = s .started;
-      «main_carrier» = s .«main_carrier»;
-      t251 = s .t251;
-      dltime = s .dltime;
-      «n_messages» = s .«n_messages»;
-      «outbound_messages» = s .«outbound_messages»;
-      «n_udata» = length us;
-      «outbound_udata_messages» = laid noEntry (s .«n_udata») us (s .«outbound_udata_messages»);
-      «n_acks» = s .«n_acks»;
-      «scheduled_out_acks» = s .«scheduled_out_acks»;
-      receipts = s .receipts;
-      «n_rows» = s .«n_rows»;
-      «link_send_seq» = s .«link_send_seq»;
-    }
+withUdata s us = putUdata s (length us) (laid noEntry (s .«n_udata») us (s .«outbound_udata_messages»))
 
 abbrev pub withAcks : State → List ScheduledOutAck → State
-withAcks s ds =
-    record {
-      started = s .started;
-      «main_carrier» = s .«main_carrier»;
-      t251 = s .t251;
-      dltime = s .dltime;
-      «n_messages» = s .«n_messages»;
-      «outbound_messages» = s .«outbound_messages»;
-      «n_udata» = s .«n_udata»;
-      «outbound_udata_messages» = s .«outbound_udata_messages»;
-      «n_acks» = length ds;
-      «scheduled_out_acks» = laid noAck (s .«n_acks») ds (s .«scheduled_out_acks»);
-      receipts = s .receipts;
-      «n_rows» = s .«n_rows»;
-      «link_send_seq» = s .«link_send_seq»;
-    }
+withAcks s ds = putAcks s (length ds) (laid noAck (s .«n_acks») ds (s .«scheduled_out_acks»))
 
 abbrev pub withRows : State → List LinkSendSeq → State
-withRows s rs =
-    record {
-      started = s .started;
-      «main_carrier» = s .«main_carrier»;
-      t251 = s .t251;
-      dltime = s .dltime;
-      «n_messages» = s .«n_messages»;
-      «outbound_messages» = s .«outbound_messages»;
-      «n_udata» = s .«n_udata»;
-      «outbound_udata_messages» = s .«outbound_udata_messages»;
-      «n_acks» = s .«n_acks»;
-      «scheduled_out_acks» = s .«scheduled_out_acks»;
-      receipts = s .receipts;
-      «n_rows» = length rs;
-      «link_send_seq» = laid noRow (s .«n_rows») rs (s .«link_send_seq»);
-    }
+withRows s rs = putRows s (length rs) (laid noRow (s .«n_rows») rs (s .«link_send_seq»))
 
 -- All of these at once, and other receipts.
 unfoldable pub relaid : State → List Entry → List Entry → List ScheduledOutAck → List ReceiptPlace → List LinkSendSeq → State

@@ -1,6 +1,6 @@
 -- A tick end on the entries: the passes of `step` with entries in place of messages, and where everything lies afterwards.
 use Prim.Native.Nat.{ℕ, _+_}
-use mathlib.Core.Bool.{true, false, cond, not, _&&_}
+use mathlib.Core.Bool.{cond, not, _&&_}
 use mathlib.Core.List.{List, [], _∷_, _++_, map}
 use lib.Dec.{ltb}
 use Rattle.tdma_time.specs.declared.TdmaTime.{TdmaTime}
@@ -8,6 +8,7 @@ use Rattle.tx_receipt.specs.Marks as Marks
 use Rattle.llc_rule.specs.Lists.{among, Visit, walk}
 use Rattle.llc_rule.specs.Records.{Record, acknowledged, unacknowledged}
 use Rattle.llc_rule.specs.Messages.{overdue, reported, replyTo}
+use Rattle.llc_state.specs.Progress.{submittedAfter, doneAt, withProgress}
 use Rattle.llc_state.specs.Receipts.{receiptOf, placeOf, mark}
 use Rattle.llc_state.specs.View.{sentIn, dueIn}
 use Rattle.llc_state.specs.declared.Entry.{Entry}
@@ -16,61 +17,16 @@ use Rattle.llc_state.specs.declared.ReceiptPlace.{ReceiptPlace}
 use Rattle.llc_state.specs.declared.State.{State}
 use Rattle.llc_steps.specs.States.{messagesOf, udataOf, acksOf, rowsOf, relaid}
 
--- An entry as passed down after so many retransmissions, and with its done time.
+-- An entry as passed down after so many retransmissions.
 abbrev pub submitted : ℕ → Entry → Entry
-submitted k e =
-    record {
-      ssi = e .ssi;
-      «ssi_type» = e .«ssi_type»;
-      «carrier_num» = e .«carrier_num»;
-      «link_id» = e .«link_id»;
-      «endpoint_id» = e .«endpoint_id»;
-      «req_handle» = e .«req_handle»;
-      «stealing_permission» = e .«stealing_permission»;
-      «has_mask» = e .«has_mask»;
-      mask = e .mask;
-      receipt = e .receipt;
-      «block_len» = e .«block_len»;
-      block = e .block;
-      place = e .place;
-      len = e .len;
-      ns = e .ns;
-      «submitted_to_umac» = true;
-      «has_umac_done» = false;
-      «t_umac_done» = e .«t_umac_done»;
-      «retransmit_count» = k;
-    }
-
-abbrev pub doneAt : TdmaTime → Entry → Entry
-doneAt t e =
-    record {
-      ssi = e .ssi;
-      «ssi_type» = e .«ssi_type»;
-      «carrier_num» = e .«carrier_num»;
-      «link_id» = e .«link_id»;
-      «endpoint_id» = e .«endpoint_id»;
-      «req_handle» = e .«req_handle»;
-      «stealing_permission» = e .«stealing_permission»;
-      «has_mask» = e .«has_mask»;
-      mask = e .mask;
-      receipt = e .receipt;
-      «block_len» = e .«block_len»;
-      block = e .block;
-      place = e .place;
-      len = e .len;
-      ns = e .ns;
-      «submitted_to_umac» = e .«submitted_to_umac»;
-      «has_umac_done» = true;
-      «t_umac_done» = t;
-      «retransmit_count» = e .«retransmit_count»;
-    }
+submitted k e = withProgress e (submittedAfter k (e .progress))
 
 -- One message of the first pass, submit_retransmissions_to_umac.
 abbrev pub timed : TdmaTime → List ReceiptPlace → Entry → Entry
 timed time ps e =
     cond
-    (not (e .«has_umac_done») && (placeOf ps (e .receipt) .taken && reported (receiptOf (placeOf ps (e .receipt)))))
-    (doneAt time e)
+    (not (e .progress .«has_umac_done») && (placeOf ps (e .sent .receipt) .taken && reported (receiptOf (placeOf ps (e .sent .receipt)))))
+    (withProgress e (doneAt time (e .progress)))
     e
 
 abbrev pub stay : {S : Type 0} → S → Entry → Visit S Entry Entry
@@ -78,16 +34,16 @@ stay s e = record { state = s; stays = e ∷ []; out = [] }
 
 abbrev pub resend : List ReceiptPlace → Entry → Visit (List ReceiptPlace) Entry Entry
 resend ps e =
-    record { state = mark Marks.reset (e .receipt) ps; stays = submitted (e .«retransmit_count» + 1) e ∷ []; out = e ∷ [] }
+    record { state = mark Marks.reset (e .sent .receipt) ps; stays = submitted (e .progress .«retransmit_count» + 1) e ∷ []; out = e ∷ [] }
 
 abbrev pub leave : List ReceiptPlace → Entry → Visit (List ReceiptPlace) Entry Entry
 leave ps e =
-    record { state = mark Marks.lost (e .receipt) ps; stays = []; out = [] }
+    record { state = mark Marks.lost (e .sent .receipt) ps; stays = []; out = [] }
 
 abbrev pub aged : TdmaTime → ℕ → List ReceiptPlace → Entry → Visit (List ReceiptPlace) Entry Entry
 aged time t251 ps e =
-    cond (e .«has_umac_done» && overdue time t251 (e .«t_umac_done»))
-    (cond (ltb (e .«retransmit_count») 3) (resend ps e) (leave ps e))
+    cond (e .progress .«has_umac_done» && overdue time t251 (e .progress .«t_umac_done»))
+    (cond (ltb (e .progress .«retransmit_count») 3) (resend ps e) (leave ps e))
     (stay ps e)
 
 unfoldable pub retransmission : TdmaTime → ℕ → List ReceiptPlace → Entry → Visit (List ReceiptPlace) Entry Entry
@@ -100,13 +56,13 @@ pub record Sending : Type 0 where
 
 unfoldable pub firstSending : Sending → Entry → Visit Sending Entry Entry
 firstSending s e =
-    cond (e .«submitted_to_umac»)
-    (stay (record { receipts = s .receipts; blocked = e .ssi ∷ s .blocked }) e)
-    (cond (among (e .ssi) (s .blocked))
+    cond (e .progress .«submitted_to_umac»)
+    (stay (record { receipts = s .receipts; blocked = e .sent .ssi ∷ s .blocked }) e)
+    (cond (among (e .sent .ssi) (s .blocked))
     (stay s e)
     (record {
-      state = record { receipts = mark Marks.reset (e .receipt) (s .receipts); blocked = e .ssi ∷ s .blocked };
-      stays = submitted (e .«retransmit_count») e ∷ [];
+      state = record { receipts = mark Marks.reset (e .sent .receipt) (s .receipts); blocked = e .sent .ssi ∷ s .blocked };
+      stays = submitted (e .progress .«retransmit_count») e ∷ [];
       out = e ∷ [];
     }))
 

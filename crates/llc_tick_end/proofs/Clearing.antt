@@ -9,8 +9,7 @@ use Rattle.llc_state.specs.States.{noEntry}
 use Rattle.llc_state.specs.declared.Entry.{Entry}
 use Rattle.llc_state.specs.declared.ReceiptPlace.{ReceiptPlace}
 use Rattle.llc_state.specs.declared.State.{State}
-use Rattle.llc_steps.specs.States.{withMessages}
-use Rattle.llc_steps.proofs.Updates.{putMessages}
+use Rattle.llc_steps.specs.States.{withMessages, putMessages}
 use Rattle.llc_tick_end.proofs.Compacting.{Compacting, Emptying, empties, empties-on, emptied}
 
 -- A state with other messages and receipts, and one with another number of messages.

@@ -16,10 +16,10 @@ use Rattle.llc_state.proofs.InRange.{entry-tells, message-tells, udata-tells}
 
 -- The numbers of an entry that index and measure.
 pub record Measures (e : Entry) : Type 0 where
-  pub receipt : e .receipt < 128
-  pub block : e .«block_len» ≤ 64
-  pub place : e .place < storePlaces
-  pub len : e .len ≤ longestSent
+  pub receipt : e .sent .receipt < 128
+  pub block : e .sent .«block_len» ≤ 64
+  pub place : e .frame .place < storePlaces
+  pub len : e .frame .len ≤ longestSent
 
 pub message-measures : (e : Entry) → messageInRange e ≡ true → Measures e
 message-measures e h =

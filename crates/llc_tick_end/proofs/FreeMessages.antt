@@ -20,9 +20,8 @@ use Rattle.llc_state.specs.declared.Entry.{Entry}
 use Rattle.llc_state.specs.declared.ReceiptPlace.{ReceiptPlace}
 use Rattle.llc_state.specs.declared.State.{State}
 use Rattle.llc_steps.specs.Arrays.{laid}
-use Rattle.llc_steps.specs.States.{messagesOf, withMessages}
+use Rattle.llc_steps.specs.States.{messagesOf, withMessages, putMessages}
 use Rattle.llc_steps.specs.TickEnd.{submitted, stay, Sending, firstSending}
-use Rattle.llc_steps.proofs.Updates.{putMessages}
 use Rattle.llc_tick_end.specs.Passes.{sentBytesOf, sendings, afterSendings}
 use Rattle.llc_tick_end.proofs.Blocked.{Filled, none-yet, as-before, one-more}
 use Rattle.llc_tick_end.proofs.Entries.{Measures, message-measures, used-at}
@@ -36,32 +35,32 @@ abbrev none-blocked : State → Sending
 none-blocked s = record { receipts = s .receipts; blocked = [] }
 
 abbrev blocks : Sending → Entry → Visit Sending Entry Entry
-blocks s e = stay (record { receipts = s .receipts; blocked = e .ssi ∷ s .blocked }) e
+blocks s e = stay (record { receipts = s .receipts; blocked = e .sent .ssi ∷ s .blocked }) e
 
 abbrev sends : Sending → Entry → Visit Sending Entry Entry
 sends s e =
     record {
-      state = record { receipts = mark reset (e .receipt) (s .receipts); blocked = e .ssi ∷ s .blocked };
-      stays = submitted (e .«retransmit_count») e ∷ [];
+      state = record { receipts = mark reset (e .sent .receipt) (s .receipts); blocked = e .sent .ssi ∷ s .blocked };
+      stays = submitted (e .progress .«retransmit_count») e ∷ [];
       out = e ∷ [];
     }
 
 -- Which visit it is, by the two tests.
 module _ (s : Sending) (e : Entry) where
-  under-way : e .«submitted_to_umac» ≡ true → firstSending s e ≡ blocks s e
+  under-way : e .progress .«submitted_to_umac» ≡ true → firstSending s e ≡ blocks s e
   unfolding firstSending
-  under-way t = if-true (blocks s e) (cond (among (e .ssi) (s .blocked)) (stay s e) (sends s e)) t
+  under-way t = if-true (blocks s e) (cond (among (e .sent .ssi) (s .blocked)) (stay s e) (sends s e)) t
 
-  waiting : e .«submitted_to_umac» ≡ false → among (e .ssi) (s .blocked) ≡ true → firstSending s e ≡ stay s e
+  waiting : e .progress .«submitted_to_umac» ≡ false → among (e .sent .ssi) (s .blocked) ≡ true → firstSending s e ≡ stay s e
   unfolding firstSending
   waiting f t =
-      if-false (blocks s e) (cond (among (e .ssi) (s .blocked)) (stay s e) (sends s e)) f
+      if-false (blocks s e) (cond (among (e .sent .ssi) (s .blocked)) (stay s e) (sends s e)) f
       ∙ if-true (stay s e) (sends s e) t
 
-  free : e .«submitted_to_umac» ≡ false → among (e .ssi) (s .blocked) ≡ false → firstSending s e ≡ sends s e
+  free : e .progress .«submitted_to_umac» ≡ false → among (e .sent .ssi) (s .blocked) ≡ false → firstSending s e ≡ sends s e
   unfolding firstSending
   free f g =
-      if-false (blocks s e) (cond (among (e .ssi) (s .blocked)) (stay s e) (sends s e)) f
+      if-false (blocks s e) (cond (among (e .sent .ssi) (s .blocked)) (stay s e) (sends s e)) f
       ∙ if-false (stay s e) (sends s e) g
 
 -- Before turn i: the visits so far, what they left in the state, what was written, and the SSIs that are blocked, from k on.
@@ -136,8 +135,8 @@ module _ {s : State} {store l : List ℕ} {at₀ : ℕ} {out : List ℕ} {next :
         ∙ used-at messageInRange (s .«n_messages») (s .«outbound_messages») i d r here (omega (arith, same-count, h .few, h .array)))
 
     -- The test of the blocked SSIs.
-    asked : {b c : Bool} → b ≡ among (e .ssi) (drop k ssis) → b ≡ c → among (e .ssi) (h .visits .state .blocked) ≡ c
-    asked p q = ap (among (e .ssi)) (sym (h .blocked .holds)) ∙ sym p ∙ q
+    asked : {b c : Bool} → b ≡ among (e .sent .ssi) (drop k ssis) → b ≡ c → among (e .sent .ssi) (h .visits .state .blocked) ≡ c
+    asked p q = ap (among (e .sent .ssi)) (sym (h .blocked .holds)) ∙ sym p ∙ q
 
     -- The state after a visit at which one element stays, and a turn that leaves it.
     abbrev turned : Visit Sending Entry Entry → State
@@ -177,23 +176,23 @@ module _ {s : State} {store l : List ℕ} {at₀ : ℕ} {out : List ℕ} {next :
 
     -- A message that is under way, one that waits behind such a one, and one that is handed down.
     pub is-under-way :
-        e .«submitted_to_umac» ≡ true
-        → Passing s store l at₀ out next at (set ssis (k - 1) (e .ssi)) (k - 1) (i + 1)
+        e .progress .«submitted_to_umac» ≡ true
+        → Passing s store l at₀ out next at (set ssis (k - 1) (e .sent .ssi)) (k - 1) (i + 1)
     is-under-way t =
         goes-on (blocks (h .visits .state) e) (under-way (h .visits .state) e t) refl as-is none-sent
-        (one-more (h .blocked) (e .ssi) (omega (arith, less, h .few)))
+        (one-more (h .blocked) (e .sent .ssi) (omega (arith, less, h .few)))
 
     pub waits :
         {b : Bool}
-        → e .«submitted_to_umac» ≡ false
-        → b ≡ among (e .ssi) (drop k ssis)
+        → e .progress .«submitted_to_umac» ≡ false
+        → b ≡ among (e .sent .ssi) (drop k ssis)
         → b ≡ true
         → Passing s store l at₀ out next at ssis k (i + 1)
     waits f p t =
         goes-on (stay (h .visits .state) e) (waiting (h .visits .state) e f (asked p t)) refl as-is none-sent
         (as-before (h .blocked))
 
-    module _ {b : Bool} (f : e .«submitted_to_umac» ≡ false) (p : b ≡ among (e .ssi) (drop k ssis)) (g : b ≡ false) where
+    module _ {b : Bool} (f : e .progress .«submitted_to_umac» ≡ false) (p : b ≡ among (e .sent .ssi) (drop k ssis)) (g : b ≡ false) where
       is-free : firstSending (h .visits .state) e ≡ sends (h .visits .state) e
       is-free = free (h .visits .state) e f (asked p g)
 
@@ -219,27 +218,27 @@ module _ {s : State} {store l : List ℕ} {at₀ : ℕ} {out : List ℕ} {next :
       pub is-sent :
           {m : List ℕ} {j : ℕ} {place : ReceiptPlace}
           → Wrote out at (sentBytes 1 (sentIn store e)) m j
-          → place ≡ markedPlace reset (placeOf (next .receipts) (e .receipt))
+          → place ≡ markedPlace reset (placeOf (next .receipts) (e .sent .receipt))
           → Passing s store l at₀ m
           (withArrays next
-          (set (next .«outbound_messages») i (submitted (e .«retransmit_count») e))
-          (set (next .receipts) (e .receipt) place))
-          j (set ssis (k - 1) (e .ssi)) (k - 1) (i + 1)
+          (set (next .«outbound_messages») i (submitted (e .progress .«retransmit_count») e))
+          (set (next .receipts) (e .sent .receipt) place))
+          j (set ssis (k - 1) (e .sent .ssi)) (k - 1) (i + 1)
       is-sent {place} wr marked =
-          let x : Entry = submitted (e .«retransmit_count») e in
+          let x : Entry = submitted (e .progress .«retransmit_count») e in
           let ps : List ReceiptPlace = h .visits .state .receipts in
-          let placed : place ≡ markedPlace reset (placeOf ps (e .receipt)) =
-          marked ∙ ap (λ (t : State). markedPlace reset (placeOf (t .receipts) (e .receipt))) (h .holds)
+          let placed : place ≡ markedPlace reset (placeOf ps (e .sent .receipt)) =
+          marked ∙ ap (λ (t : State). markedPlace reset (placeOf (t .receipts) (e .sent .receipt))) (h .holds)
           in
           goes-on (sends (h .visits .state) e) is-free refl
           (ap
-          (λ (t : State). withArrays t (set (t .«outbound_messages») i x) (set (t .receipts) (e .receipt) place))
+          (λ (t : State). withArrays t (set (t .«outbound_messages») i x) (set (t .receipts) (e .sent .receipt) place))
           (h .holds)
           ∙ ap₂ (withArrays s)
           (next-set (h .visits .stays) (s .«outbound_messages») i d (h .many) within x)
-          (ap (set ps (e .receipt)) placed))
+          (ap (set ps (e .sent .receipt)) placed))
           (same-bytes (sym (sent-more store (h .visits .out) e)) (h .wrote ⨾ wr))
-          (one-more (h .blocked) (e .ssi) (omega (arith, less, h .few)))
+          (one-more (h .blocked) (e .sent .ssi) (omega (arith, less, h .few)))
 
   -- No message is left.
   module _ (none : next .«n_messages» ≤ i) where

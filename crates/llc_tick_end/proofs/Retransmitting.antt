@@ -17,16 +17,17 @@ use Rattle.llc_rule.specs.Records.{sentBytes}
 use Rattle.llc_rule.proofs.Lists.{either, if-true, if-false}
 use Rattle.llc_records.specs.Wrote.{Wrote}
 use Rattle.llc_records.proofs.Wrote.{_⨾_, same-bytes, wrote-none, as-long}
+use Rattle.llc_state.specs.Progress.{doneAt, withProgress}
 use Rattle.llc_state.specs.Ranges.{inRange, ifThere, messageInRange}
 use Rattle.llc_state.specs.Receipts.{withPlaces, markedPlace, placeOf, mark}
 use Rattle.llc_state.specs.View.{sentIn}
 use Rattle.llc_state.specs.declared.Entry.{Entry}
 use Rattle.llc_state.specs.declared.ReceiptPlace.{ReceiptPlace}
 use Rattle.llc_state.specs.declared.State.{State}
-use Rattle.llc_state.proofs.InRange.{there-holds, message-tells, range-tells}
+use Rattle.llc_state.proofs.InRange.{there-holds, progress-tells, message-tells, range-tells}
 use Rattle.llc_state.proofs.Lengths.{Lengths}
 use Rattle.llc_steps.specs.States.{messagesOf, withMessages}
-use Rattle.llc_steps.specs.TickEnd.{submitted, doneAt, stay, resend, leave, aged, retransmission, retransmissions}
+use Rattle.llc_steps.specs.TickEnd.{submitted, stay, resend, leave, aged, retransmission, retransmissions}
 use Rattle.llc_steps.proofs.SaneTickEnd.{done-in-range}
 use Rattle.llc_tick_end.specs.Passes.{sentBytesOf, afterRetransmissions}
 use Rattle.llc_tick_end.specs.Retransmissions.{newlyDone, timedBy, isDue}
@@ -42,24 +43,24 @@ timed-fits :
     → valid time ≡ true
     → messageInRange x ≡ true
     → messageInRange (timedBy time p x) ≡ true
-timed-fits time p x v h = either (λ (e : Entry). messageInRange e ≡ true) (newlyDone p x) {x = doneAt time x} (done-in-range time x v h) h
+timed-fits time p x v h = either (λ (e : Entry). messageInRange e ≡ true) (newlyDone p x) {x = withProgress x (doneAt time (x .progress))} (done-in-range time x v h) h
 
-timed-receipt : (time : TdmaTime) (p : ReceiptPlace) (x : Entry) → timedBy time p x .receipt ≡ x .receipt
-timed-receipt time p x = either (λ (e : Entry). e .receipt ≡ x .receipt) (newlyDone p x) {x = doneAt time x} refl refl
+timed-receipt : (time : TdmaTime) (p : ReceiptPlace) (x : Entry) → timedBy time p x .sent .receipt ≡ x .sent .receipt
+timed-receipt time p x = either (λ (e : Entry). e .sent .receipt ≡ x .sent .receipt) (newlyDone p x) {x = withProgress x (doneAt time (x .progress))} refl refl
 
 -- A message that stays, one that is handed down again, and one that leaves.
 module _ (time : TdmaTime) (t251 : ℕ) (ps : List ReceiptPlace) (e : Entry) where
   not-due : isDue time t251 e ≡ false → aged time t251 ps e ≡ stay ps e
-  not-due h = if-false (cond (ltb (e .«retransmit_count») 3) (resend ps e) (leave ps e)) (stay ps e) h
+  not-due h = if-false (cond (ltb (e .progress .«retransmit_count») 3) (resend ps e) (leave ps e)) (stay ps e) h
 
-  due : isDue time t251 e ≡ true → aged time t251 ps e ≡ cond (ltb (e .«retransmit_count») 3) (resend ps e) (leave ps e)
-  due h = if-true (cond (ltb (e .«retransmit_count») 3) (resend ps e) (leave ps e)) (stay ps e) h
+  due : isDue time t251 e ≡ true → aged time t251 ps e ≡ cond (ltb (e .progress .«retransmit_count») 3) (resend ps e) (leave ps e)
+  due h = if-true (cond (ltb (e .progress .«retransmit_count») 3) (resend ps e) (leave ps e)) (stay ps e) h
 
-  again : isDue time t251 e ≡ true → e .«retransmit_count» < 3 → aged time t251 ps e ≡ resend ps e
-  again h few = due h ∙ if-true (resend ps e) (leave ps e) (lt-ltb (e .«retransmit_count») 3 few)
+  again : isDue time t251 e ≡ true → e .progress .«retransmit_count» < 3 → aged time t251 ps e ≡ resend ps e
+  again h few = due h ∙ if-true (resend ps e) (leave ps e) (lt-ltb (e .progress .«retransmit_count») 3 few)
 
-  no-more : isDue time t251 e ≡ true → 3 ≤ e .«retransmit_count» → aged time t251 ps e ≡ leave ps e
-  no-more h many = due h ∙ if-false (resend ps e) (leave ps e) (le-ltb (e .«retransmit_count») 3 many)
+  no-more : isDue time t251 e ≡ true → 3 ≤ e .progress .«retransmit_count» → aged time t251 ps e ≡ leave ps e
+  no-more h many = due h ∙ if-false (resend ps e) (leave ps e) (le-ltb (e .progress .«retransmit_count») 3 many)
 
 -- After visits to the first i messages of s, of which j stay: next is the state, and at the place behind what was written.
 pub record Passing (s : State) (store out₀ : List ℕ) (next : State) (i j : ℕ) (out : List ℕ) (at : ℕ) : Type 0 where
@@ -123,22 +124,22 @@ module _ {s : State} {store out₀ : List ℕ} {next : State} {i j : ℕ} {out :
 
     -- A visit, after which the message is e.
     module _ {e : Entry}
-        (is-timed : e ≡ timedBy (s .dltime) (placeOf (next .receipts) (held next i d .receipt)) (held next i d)) where
+        (is-timed : e ≡ timedBy (s .dltime) (placeOf (next .receipts) (held next i d .sent .receipt)) (held next i d)) where
       visited-fits : messageInRange e ≡ true
       visited-fits =
           let x : Entry = held next i d in
-          ap messageInRange is-timed ∙ timed-fits (s .dltime) (placeOf (next .receipts) (x .receipt)) x (h .time) held-fits
+          ap messageInRange is-timed ∙ timed-fits (s .dltime) (placeOf (next .receipts) (x .sent .receipt)) x (h .time) held-fits
 
       pub visited-measures : Measures e
       visited-measures = message-measures e visited-fits
 
-      pub visited-done : ifThere (e .«has_umac_done») (valid (e .«t_umac_done»)) ≡ true
-      visited-done = there-holds (message-tells e visited-fits .done)
+      pub visited-done : ifThere (e .progress .«has_umac_done») (valid (e .progress .«t_umac_done»)) ≡ true
+      visited-done = there-holds (progress-tells (e .progress) (message-tells e visited-fits .progress) .done)
 
-      same-receipt : e .receipt ≡ held next i d .receipt
+      same-receipt : e .sent .receipt ≡ held next i d .sent .receipt
       same-receipt =
           let x : Entry = held next i d in
-          ap (λ (t : Entry). t .receipt) is-timed ∙ timed-receipt (s .dltime) (placeOf (next .receipts) (x .receipt)) x
+          ap (λ (t : Entry). t .sent .receipt) is-timed ∙ timed-receipt (s .dltime) (placeOf (next .receipts) (x .sent .receipt)) x
 
       visits :
           {w : Visit (List ReceiptPlace) Entry Entry}
@@ -176,7 +177,7 @@ module _ {s : State} {store out₀ : List ℕ} {next : State} {i j : ℕ} {out :
       module _ (h-due : isDue (s .dltime) (s .t251) e ≡ true) where
         -- There is room for its record where it is handed down again.
         pub room :
-            e .«retransmit_count» < 3
+            e .progress .«retransmit_count» < 3
             → length (sentBytesOf (bits store) (retransmissions s .out)) ≤ length out₀
             → at + length (sentBytes 1 (sentIn (bits store) e)) ≤ length out
         unfolding retransmissions
@@ -186,19 +187,19 @@ module _ {s : State} {store out₀ : List ℕ} {next : State} {i j : ℕ} {out :
 
         pub sends-again :
             {f : Entry} {p : ReceiptPlace} {out₁ : List ℕ} {at₁ : ℕ}
-            → e .«retransmit_count» < 3
+            → e .progress .«retransmit_count» < 3
             → Wrote out at (sentBytes 1 (sentIn (bits store) e)) out₁ at₁
-            → p ≡ markedPlace reset (placeOf (next .receipts) (held next i d .receipt))
-            → f ≡ submitted (e .«retransmit_count» + 1) e
+            → p ≡ markedPlace reset (placeOf (next .receipts) (held next i d .sent .receipt))
+            → f ≡ submitted (e .progress .«retransmit_count» + 1) e
             → Passing s store out₀
-            (withArrays next (set (next .«outbound_messages») j f) (set (next .receipts) (held next i d .receipt) p))
+            (withArrays next (set (next .«outbound_messages») j f) (set (next .receipts) (held next i d .sent .receipt) p))
             (i + 1)
             (j + 1)
             out₁
             at₁
         sends-again {f} {p} {out₁} {at₁} few w is-marked is-submitted =
             let ms : List Entry = set (next .«outbound_messages») j f in
-            let r : ℕ = held next i d .receipt in
+            let r : ℕ = held next i d .sent .receipt in
             let ps : List ReceiptPlace = set (next .receipts) r p in
             record {
               visit = _then_ (h .visit) (resend (next .receipts) e);
@@ -223,16 +224,16 @@ module _ {s : State} {store out₀ : List ℕ} {next : State} {i j : ℕ} {out :
         -- It leaves.
         pub leaves :
             {p : ReceiptPlace}
-            → 3 ≤ e .«retransmit_count»
-            → p ≡ markedPlace lost (placeOf (next .receipts) (held next i d .receipt))
+            → 3 ≤ e .progress .«retransmit_count»
+            → p ≡ markedPlace lost (placeOf (next .receipts) (held next i d .sent .receipt))
             → Passing s store out₀
-            (withArrays next (next .«outbound_messages») (set (next .receipts) (held next i d .receipt) p))
+            (withArrays next (next .«outbound_messages») (set (next .receipts) (held next i d .sent .receipt) p))
             (i + 1)
             j
             out
             at
         leaves {p} many is-marked =
-            let r : ℕ = held next i d .receipt in
+            let r : ℕ = held next i d .sent .receipt in
             let ps : List ReceiptPlace = set (next .receipts) r p in
             record {
               visit = _then_ (h .visit) (leave (next .receipts) e);

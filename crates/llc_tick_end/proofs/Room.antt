@@ -57,8 +57,8 @@ small-entry : (store : List ℕ) (e : Entry) → Measures e → SmallSent (sentI
 unfolding sentIn frameIn
 small-entry store e t =
     record {
-      block = omega (arith, t .block, few (e .«block_len») (e .block));
-      pdu = omega (arith, t .len, few (e .len) (drop (placeBit (e .place)) store));
+      block = omega (arith, t .block, few (e .sent .«block_len») (e .sent .block));
+      pdu = omega (arith, t .len, few (e .frame .len) (drop (placeBit (e .frame .place)) store));
     }
 
 pub small-in : (s : State) (store : List ℕ) → inRange s ≡ true → Small (linkIn s store)

@@ -31,7 +31,7 @@ one-stays : (s : Sending) (e : Entry) → length (firstSending s e .stays) ≡ 1
 unfolding firstSending
 one-stays s e =
     let One : Visit Sending Entry Entry → Type 0 = λ v. length (v .stays) ≡ 1 in
-    either One (e .«submitted_to_umac») refl (either One (among (e .ssi) (s .blocked)) refl refl)
+    either One (e .progress .«submitted_to_umac») refl (either One (among (e .sent .ssi) (s .blocked)) refl refl)
 
 -- As many stay as there were.
 pub as-many : (s : State) → length (sendings s .stays) ≡ length (messagesOf s)

@@ -74,8 +74,8 @@ module _ (time : TdmaTime) (t251 : ℕ) where
   unfolding retransmission
   few-again ps e =
       let d = timed time ps e in
-      either AtMostOne (d .«has_umac_done» && overdue time t251 (d .«t_umac_done»))
-      (either AtMostOne (ltb (d .«retransmit_count») 3) (omega arith) (omega arith))
+      either AtMostOne (d .progress .«has_umac_done» && overdue time t251 (d .progress .«t_umac_done»))
+      (either AtMostOne (ltb (d .progress .«retransmit_count») 3) (omega arith) (omega arith))
       (omega arith)
 
   again-in-range : valid time ≡ true → (ps : List ReceiptPlace) (e : Entry) → messageInRange e ≡ true → InRange (retransmission time t251 ps e)
@@ -83,9 +83,9 @@ module _ (time : TdmaTime) (t251 : ℕ) where
   again-in-range v ps e h =
       let d = timed time ps e in
       let k = timed-in-range time ps e v h in
-      either InRange (d .«has_umac_done» && overdue time t251 (d .«t_umac_done»))
-      (by-choice InRange (ltb (d .«retransmit_count») 3)
-      (λ t. one-passes messageInRange _ (submitted-in-range (d .«retransmit_count» + 1) d (omega (arith, ltb-true (d .«retransmit_count») 3 t)) k))
+      either InRange (d .progress .«has_umac_done» && overdue time t251 (d .progress .«t_umac_done»))
+      (by-choice InRange (ltb (d .progress .«retransmit_count») 3)
+      (λ t. one-passes messageInRange _ (submitted-in-range (d .progress .«retransmit_count» + 1) d (omega (arith, ltb-true (d .progress .«retransmit_count») 3 t)) k))
       (λ t. none-passes messageInRange))
       (one-passes messageInRange d k)
 
@@ -103,7 +103,7 @@ stays-in-range s h on =
 
 few-first : (s : Sending) (e : Entry) → AtMostOne (firstSending s e)
 unfolding firstSending
-few-first s e = either AtMostOne (e .«submitted_to_umac») (omega arith) (either AtMostOne (among (e .ssi) (s .blocked)) (omega arith) (omega arith))
+few-first s e = either AtMostOne (e .progress .«submitted_to_umac») (omega arith) (either AtMostOne (among (e .sent .ssi) (s .blocked)) (omega arith) (omega arith))
 
 pub stays-few-too : (s : State) → length (firstSendings s .stays) ≤ length (retransmissions s .stays)
 unfolding firstSendings

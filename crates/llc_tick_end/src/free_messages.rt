@@ -36,8 +36,8 @@ pub(crate) fn submit_free_messages_to_umac(
     while i < state.n_messages {
         let m = i;
         i += 1;
-        let ssi = state.outbound_messages[m].ssi;
-        if state.outbound_messages[m].submitted_to_umac {
+        let ssi = state.outbound_messages[m].sent.ssi;
+        if state.outbound_messages[m].progress.submitted_to_umac {
             k -= 1;
             ssi_blocked[k] = ssi;
             continue;
@@ -47,11 +47,11 @@ pub(crate) fn submit_free_messages_to_umac(
         }
         let mut ack = state.outbound_messages[m];
         at = put_message(out, at, 1, ack, store);
-        let receipt = ack.receipt as usize;
+        let receipt = ack.sent.receipt as usize;
         let place = state.receipts[receipt];
         state.receipts[receipt] = place.reset();
-        ack.submitted_to_umac = true;
-        ack.has_umac_done = false;
+        ack.progress.submitted_to_umac = true;
+        ack.progress.has_umac_done = false;
         state.outbound_messages[m] = ack;
         k -= 1;
         ssi_blocked[k] = ssi;

@@ -19,35 +19,36 @@ const PLACE_BITS: usize = 8 * PLACE_BYTES;
 // Writes the record of a message, whose frame is in the store, from a place of the output on.
 pub(crate) fn put_message(out: &mut [u8], at: usize, kind: u8, e: Entry, store: &[u8]) -> usize
     requires { ⌜ length (now store) ≡ storeBytes ⌝ }
-    requires { ⌜ e .«block_len» ≤ 64 ⌝ }
-    requires { ⌜ e .place < storePlaces ⌝ }
-    requires { ⌜ e .len ≤ longestSent ⌝ }
+    requires { ⌜ e .sent .«block_len» ≤ 64 ⌝ }
+    requires { ⌜ e .frame .place < storePlaces ⌝ }
+    requires { ⌜ e .frame .len ≤ longestSent ⌝ }
     requires { ⌜ at + length (sentBytes kind (sentIn (bits (now store)) e)) ≤ length (now out) ⌝ }
     ensures { λ r. ⌜ Wrote (now (out .entry)) at (sentBytes kind (sentIn (bits (now (store .entry))) e)) (now (out .exit)) r ⌝ }
 {
-    let block = e.block;
-    let sent = SentRecord {
-        ssi: e.ssi,
-        ssi_type: e.ssi_type,
-        carrier: e.carrier_num,
-        link: e.link_id,
-        endpoint: e.endpoint_id,
-        handle: e.req_handle,
-        steal: e.stealing_permission,
-        has_mask: e.has_mask,
-        mask: e.mask,
-        receipt: e.receipt,
+    let sent = e.sent;
+    let block = sent.block;
+    let record = SentRecord {
+        ssi: sent.ssi,
+        ssi_type: sent.ssi_type,
+        carrier: sent.carrier_num,
+        link: sent.link_id,
+        endpoint: sent.endpoint_id,
+        handle: sent.req_handle,
+        steal: sent.stealing_permission,
+        has_mask: sent.has_mask,
+        mask: sent.mask,
+        receipt: sent.receipt,
     };
     put_sent(
         out,
         at,
         kind,
-        sent,
+        record,
         &block,
         0,
-        e.block_len,
+        sent.block_len,
         store,
-        e.place * PLACE_BITS,
-        e.len,
+        e.frame.place * PLACE_BITS,
+        e.frame.len,
     )
 }

@@ -48,10 +48,12 @@ fn is_reported(place: ReceiptPlace) -> bool
 fn timed(e: Entry, place: ReceiptPlace, dltime: TdmaTime) -> Entry
     ensures { λ r. ⌜ r ≡ timedBy dltime place e ⌝ }
 {
-    if !e.has_umac_done & is_reported(place) {
+    if !e.progress.has_umac_done & is_reported(place) {
+        let mut progress = e.progress;
+        progress.has_umac_done = true;
+        progress.t_umac_done = dltime;
         let mut done = e;
-        done.has_umac_done = true;
-        done.t_umac_done = dltime;
+        done.progress = progress;
         return done;
     }
     e
@@ -60,11 +62,11 @@ fn timed(e: Entry, place: ReceiptPlace, dltime: TdmaTime) -> Entry
 // Is it time to hand the message down again, or to give it up?
 fn is_due(e: Entry, dltime: TdmaTime, t251: u16) -> bool
     requires { ⌜ valid dltime ≡ true ⌝ }
-    requires { ⌜ ifThere (e .«has_umac_done») (valid (e .«t_umac_done»)) ≡ true ⌝ }
+    requires { ⌜ ifThere (e .progress .«has_umac_done») (valid (e .progress .«t_umac_done»)) ≡ true ⌝ }
     ensures { λ r. ⌜ r ≡ isDue dltime t251 e ⌝ }
 {
-    let t_umac_done = e.t_umac_done;
-    if !e.has_umac_done {
+    let t_umac_done = e.progress.t_umac_done;
+    if !e.progress.has_umac_done {
         return false;
     }
     overdue(dltime, t251, t_umac_done)
@@ -75,9 +77,9 @@ pub(crate) fn submitted(e: Entry, retransmit_count: u8) -> Entry
     ensures { λ r. ⌜ r ≡ submittedEntry «retransmit_count» e ⌝ }
 {
     let mut next = e;
-    next.submitted_to_umac = true;
-    next.has_umac_done = false;
-    next.retransmit_count = retransmit_count;
+    next.progress.submitted_to_umac = true;
+    next.progress.has_umac_done = false;
+    next.progress.retransmit_count = retransmit_count;
     next
 }
 
@@ -102,18 +104,18 @@ pub(crate) fn submit_retransmissions_to_umac(
     let mut at = 0;
     while i < n {
         let held = state.outbound_messages[i];
-        let receipt = held.receipt as usize;
+        let receipt = held.sent.receipt as usize;
         let place = state.receipts[receipt];
         let e = timed(held, place, dltime);
         i += 1;
         if !is_due(e, dltime, t251) {
             state.outbound_messages[j] = e;
             j += 1;
-        } else if e.retransmit_count < N252_BL_MAX_TLSDU_RETRANSMITS_ACKED {
+        } else if e.progress.retransmit_count < N252_BL_MAX_TLSDU_RETRANSMITS_ACKED {
             let behind = put_message(out, at, 1, e, store);
             at = behind;
             state.receipts[receipt] = place.reset();
-            state.outbound_messages[j] = submitted(e, e.retransmit_count + 1);
+            state.outbound_messages[j] = submitted(e, e.progress.retransmit_count + 1);
             j += 1;
         } else {
             state.receipts[receipt] = place.lost();

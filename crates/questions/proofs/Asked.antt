@@ -5,7 +5,7 @@ use mathlib.Core.Path.{_≡_, _∙_, refl, sym}
 use mathlib.Core.Bool.{Bool, true, false, not, _&&_, false≢true}
 use borrow.Author.Tests.{not-true, not-false}
 use native.Mathlib.Omega.{arith}
-use Rattle.questions.specs.Outcome.{Outcome, accepted, ask}
+use Rattle.questions.specs.Outcome.{Outcome, accepted, refused, ask}
 
 pub passed : {r v : Bool} → r ≡ v → not r ≡ false → v ≡ true
 passed {r} e left = sym e ∙ not-false r left
@@ -17,6 +17,11 @@ failed {r} e taken = sym e ∙ not-true r taken
 pub both : (x y : Bool) → x && y ≡ true → (x ≡ true) × (y ≡ true)
 both true y h = (refl, h)
 both false y h = absurd (false≢true h)
+
+-- What holds of a refusal by its number, and of the rest where the question is passed, holds of the question with the rest.
+pub by-question : {A : Type 0} (P : Outcome A → Type 0) (n : ℕ) (b : Bool) {rest : Outcome A} → P (refused n) → (b ≡ true → P rest) → P (ask n b rest)
+by-question P n true r f = f refl
+by-question P n false r f = r
 
 -- An outcome that is accepted passed the question, and is the rest's.
 pub accepted-passed : {A : Type 0} (n : ℕ) (b : Bool) {x : A} {rest : Outcome A} → accepted x ≡ ask n b rest → (b ≡ true) × (accepted x ≡ rest)

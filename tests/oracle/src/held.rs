@@ -1,4 +1,4 @@
-//! What a link holds: all that a caller of the binding sees of it, also of the Rust's link.
+//! What is compared of what a link holds, also of the Rust's link.
 use crate::oracle::{Oracle, RECEIPTS, Started};
 use std::fmt;
 use tetra_core::{TdmaTime, TxReporter, TxState};

@@ -7,7 +7,7 @@ use crate::state::StateLines;
 use crate::words::Hex;
 use wipturay::{Link, Records, Refused};
 
-/// A run: the link, and the calls that it got.
+/// A run: the link on which its calls are made.
 pub struct Run {
     link: Link,
 }

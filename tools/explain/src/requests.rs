@@ -1,4 +1,4 @@
-//! Requests in words, with whatever values they have: the binding's own requests hold only those that can be accepted.
+//! Requests in words, with whatever values they have: the binding's own requests cannot hold all of them.
 use crate::reader::Reader;
 use crate::words::{Address, Block, Carrier, Ids, Mask, Packed, stealing};
 use std::fmt::{Display, Formatter, Result};

@@ -1,11 +1,6 @@
 use Rattle.claims.proofs.link_as_lists.Statement.{statement}
 use Rattle.claims.proofs.link_as_lists.Tie as tie
-use Rattle.llc_rule.proofs.Demand3 as Demand3
-use Rattle.llc_rule.proofs.Swap as Swap
-use Rattle.llc_rule.proofs.UnderWay as UnderWay
-use Rattle.llc_rule.proofs.Sendings as Sendings
-use Rattle.llc_rule.proofs.SendingsByRule as SendingsByRule
-use Rattle.llc_rule.proofs.WhereTransmitted as WhereTransmitted
+use Rattle.llc_rule.proofs.Claim as Claim
 use Rattle.llc_rule.proofs.Instance as Instance
 use Rattle.llc_rule.proofs.Applied as Applied
 use Rattle.llc_rule.proofs.FitsRuns as FitsRuns
@@ -15,12 +10,7 @@ use Rattle.llc_rule.proofs.Room as Room
 
 returns : tie.Need-returns
 returns c = record {
-  demand3 = Demand3.demand3;
-  swap = Swap.swap;
-  one-under-way = UnderWay.one-under-way;
-  handed-down = Sendings.handed-down;
-  handed-down-by-rule = SendingsByRule.handed-down-by-rule;
-  where-transmitted = WhereTransmitted.where-transmitted;
+  claims = Claim.claims;
   unhindered-instance = Instance.unhindered-instance;
   unhindered-turned = Instance.unhindered-turned;
   instance-kinds = Instance.instance-kinds;

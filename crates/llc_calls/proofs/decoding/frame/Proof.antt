@@ -1,34 +1,64 @@
-use mathlib.Core.Path.{_≡_, _∙_, ap}
-use mathlib.Core.Bool.{true, false}
-use lib.ListN.{drop}
-use Rattle.questions.specs.Outcome.{accepted}
-use Rattle.questions.proofs.Asked.{passed, failed}
-use Rattle.llc_rule.specs.Calls.{Frame, frame as frameOf, filledFrom, inner}
-use Rattle.llc_calls.proofs.Filled.{filled-drop}
+use native.Mathlib.Omega.{arith}
+use Rattle.llc_calls.proofs.Filled.{room}
+use Rattle.llc_calls.proofs.Parts.{frame-is, frame-inside}
 use borrow.Author.Needs.{needs}
 use Rattle.llc_calls.proofs.decoding.frame.Statement.{statement}
 use Rattle.llc_calls.proofs.decoding.frame.Tie as tie
 
-filled-from-requires : tie.Need-filled-from-requires
-filled-from-requires c κs = search needs
+shared-slice-read-block-len : tie.Need-shared-slice-read-block-len
+shared-slice-read-block-len c = omega (arith, room (c .before .before .args .bytes .now) 17 (c .before .before .pre))
+
+cast-block-len : tie.Need-cast-block-len
+cast-block-len c = omega (arith, c .shared-slice-known2 .given 17)
+
+add-two : tie.Need-add-two
+add-two c = omega (arith, c .shared-slice-known2 .given 17)
+
+two-requires : tie.Need-two-requires
+two-requires c κs = omega (arith, room (c .before .before .args .bytes .now) 17 (c .before .before .pre))
+
+cast-pdu-len : tie.Need-cast-pdu-len
+cast-pdu-len c = search needs
+
+three-requires : tie.Need-three-requires
+three-requires c κs = omega (arith, room (c .before .before .before .args .bytes .now) 17 (c .before .before .before .pre))
+
+shared-slice-read-t5 : tie.Need-shared-slice-read-t5
+shared-slice-read-t5 c = omega (arith, room (c .before .before .before .before .before .args .bytes .now) 17 (c .before .before .before .before .before .pre))
+
+two-requires-2 : tie.Need-two-requires-2
+two-requires-2 c κs = omega (arith, room (c .before .before .before .before .before .args .bytes .now) 17 (c .before .before .before .before .before .pre))
+
+four-requires : tie.Need-four-requires
+four-requires c κs = omega (arith, room (c .before .before .before .before .before .before .args .bytes .now) 17 (c .before .before .before .before .before .before .pre))
+
+four-requires-2 : tie.Need-four-requires-2
+four-requires-2 c κs = omega (arith, room (c .before .before .before .before .before .before .before .args .bytes .now) 17 (c .before .before .before .before .before .before .before .pre))
+
+add-t7 : tie.Need-add-t7
+add-t7 c = omega (arith, c .before .before .before .before .before .before .shared-slice-known2 .given 17)
 
 returns : tie.Need-returns
-unfolding inner
 returns c =
-    let b = c .before .before .before .args .bytes .now in
-    let no : filledFrom (drop 3 b) 14 ≡ false = filled-drop 3 b 14 (c .before .before .before .pre) ∙ failed (c .before .filled-from .ensures) (c .if1 .taken) in
-    (rw no, tt)
-
-received-requires : tie.Need-received-requires
-received-requires c κs = passed (c .before .filled-from .ensures) (c .if1 .left)
-
-returns-2 : tie.Need-returns-2
-unfolding inner
-returns-2 c =
-    let b = c .before .before .before .before .args .bytes .now in
-    let full : filledFrom (drop 3 b) 14 ≡ true =
-    filled-drop 3 b 14 (c .before .before .before .before .pre) ∙ passed (c .before .before .filled-from .ensures) (c .before .if1 .left) in
-    (rw full (ap (λ (r : Frame). accepted (frameOf r)) (c .received .ensures .0)), c .received .ensures .1)
+    let b = c .before .before .before .before .before .before .before .before .args .bytes .now in (
+      frame-is b (c .before .before .before .before .three .ensures .0) (c .before .before .two2 .ensures) (c .before .four .ensures) (c .four2 .ensures) (c .before .before .before .before .before .two .ensures),
+      frame-inside b (λ j. omega (arith, c .before .before .before .before .before .before .shared-slice-known2 .given j)) (c .before .before .before .before .before .before .before .before .pre) (c .before .before .before .before .before .two .ensures) (c .before .before .before .before .three .ensures .1)
+          (omega arith) (omega arith) (omega arith) (omega arith),
+    )
 
 pub frame-spec : {M : Type 1} → statement M
-frame-spec = tie.close (tie.spec filled-from-requires returns received-requires returns-2)
+frame-spec =
+    tie.close
+    (tie.spec
+    shared-slice-read-block-len
+    cast-block-len
+    add-two
+    two-requires
+    cast-pdu-len
+    three-requires
+    shared-slice-read-t5
+    two-requires-2
+    four-requires
+    four-requires-2
+    add-t7
+    returns)

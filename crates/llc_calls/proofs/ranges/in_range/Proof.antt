@@ -1,4 +1,6 @@
 use mathlib.Core.Path.{_∙_, sym, ap}
+use mathlib.Core.Bool.{Bool, _&&_}
+use Rattle.llc_rule.specs.Ranges.{isReceipt}
 use Rattle.llc_calls.specs.Ranges.{inRangeOf}
 use borrow.Author.Needs.{needs}
 use Rattle.llc_calls.proofs.ranges.in_range.Statement.{statement}
@@ -25,20 +27,14 @@ request-in-range-requires c κs = search needs
 enum-known-call-4 : tie.Need-enum-known-call-4
 enum-known-call-4 c = search needs
 
-request-in-range-requires-2 : tie.Need-request-in-range-requires-2
-request-in-range-requires-2 c κs = search needs
+frame-in-range-requires : tie.Need-frame-in-range-requires
+frame-in-range-requires c κs = search needs
 
 enum-known-call-5 : tie.Need-enum-known-call-5
 enum-known-call-5 c = search needs
 
-frame-in-range-requires : tie.Need-frame-in-range-requires
-frame-in-range-requires c κs = search needs
-
-enum-known-call-6 : tie.Need-enum-known-call-6
-enum-known-call-6 c = search needs
-
-enum-known-call-7 : tie.Need-enum-known-call-7
-enum-known-call-7 c = search needs
+action-in-range-requires : tie.Need-action-in-range-requires
+action-in-range-requires c κs = search needs
 
 enum-told-2 : tie.Need-enum-told-2
 enum-told-2 c = search needs
@@ -64,27 +60,21 @@ returns-4 c = c .request-in-range .ensures ∙ sym (ap inRangeOf (c .before .bef
 
 returns-5 : tie.Need-returns-5
 unfolding inRangeOf
-returns-5 c = c .request-in-range2 .ensures ∙ sym (ap inRangeOf (c .before .before .call4 .given .1))
+returns-5 c = c .frame-in-range .ensures ∙ sym (ap inRangeOf (c .before .before .call4 .given .1))
 
 returns-6 : tie.Need-returns-6
 unfolding inRangeOf
-returns-6 c = c .frame-in-range .ensures ∙ sym (ap inRangeOf (c .before .before .call5 .given .1))
+returns-6 c =
+    let e = c .before .before .call5 .given in
+    ap (λ (b : Bool). isReceipt (e .0 .0) && b) (c .action-in-range .ensures) ∙ sym (ap inRangeOf (e .1))
 
 returns-7 : tie.Need-returns-7
 unfolding inRangeOf
-returns-7 c = sym (ap inRangeOf (c .before .call6 .given .1))
+returns-7 c = search needs
 
 returns-8 : tie.Need-returns-8
 unfolding inRangeOf
-returns-8 c = sym (ap inRangeOf (c .before .call7 .given .1))
-
-returns-9 : tie.Need-returns-9
-unfolding inRangeOf
-returns-9 c = search needs
-
-returns-10 : tie.Need-returns-10
-unfolding inRangeOf
-returns-10 c = search needs
+returns-8 c = search needs
 
 pub in-range-spec : {M : Type 1} → statement M
 in-range-spec =
@@ -97,11 +87,9 @@ in-range-spec =
     enum-known-call-3
     request-in-range-requires
     enum-known-call-4
-    request-in-range-requires-2
-    enum-known-call-5
     frame-in-range-requires
-    enum-known-call-6
-    enum-known-call-7
+    enum-known-call-5
+    action-in-range-requires
     enum-told-2
     enum-told-3
     returns
@@ -111,6 +99,4 @@ in-range-spec =
     returns-5
     returns-6
     returns-7
-    returns-8
-    returns-9
-    returns-10)
+    returns-8)

@@ -2,7 +2,7 @@ use borrow.Author.Tests.{not-true, not-false}
 use Rattle.llc_state.proofs.InRange.{range-tells}
 use Rattle.llc_state.proofs.Lengths.{lengths}
 use Rattle.llc_frames.proofs.Due.{none-due, room, one-due}
-use Rattle.llc_frames.proofs.Relaid.{counts}
+use Rattle.llc_steps.proofs.Updates.{counts}
 use Rattle.llc_frames.proofs.frames.acknowledge.Statement.{statement}
 use Rattle.llc_frames.proofs.frames.acknowledge.Tie as tie
 

@@ -4,7 +4,7 @@ use borrow.Author.Tests.{not-true, not-false}
 use Rattle.llc_state.proofs.InRange.{range-tells}
 use Rattle.llc_state.proofs.Lengths.{lengths}
 use Rattle.llc_frames.proofs.Found.{none-finishes, receipt-in, unfit-finishes, fit-finishes}
-use Rattle.llc_frames.proofs.Relaid.{counts}
+use Rattle.llc_steps.proofs.Updates.{counts}
 use borrow.Author.Needs.{needs}
 use Rattle.llc_frames.proofs.frames.may_finish.Statement.{statement}
 use Rattle.llc_frames.proofs.frames.may_finish.Tie as tie

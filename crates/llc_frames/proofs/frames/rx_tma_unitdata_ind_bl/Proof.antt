@@ -4,7 +4,7 @@ use Rattle.llc_state.proofs.InRange.{range-tells}
 use Rattle.llc_state.proofs.Lengths.{lengths}
 use Rattle.llc_frames.proofs.Due.{same-queue}
 use Rattle.llc_frames.proofs.Paths.{has-room, acks-full, no-nr, not-finishable, with-nr}
-use Rattle.llc_frames.proofs.Relaid.{counts}
+use Rattle.llc_steps.proofs.Updates.{counts}
 use borrow.Author.Needs.{needs}
 use Rattle.llc_frames.proofs.frames.rx_tma_unitdata_ind_bl.Statement.{statement}
 use Rattle.llc_frames.proofs.frames.rx_tma_unitdata_ind_bl.Tie as tie

@@ -122,10 +122,10 @@ loop-less-3 c = search needs
 
 loop-again-3 : tie.Need-loop-again-3 Inv-loop μ-loop
 loop-again-3 c =
-    let b = c .before .before .before .before .before .before .before .before in
+    let b = c .before .before .before .before .before .before .before .before .before .before in
     let d = b .before .before .before in
     is-sent (d .before .before .loop .inv) _ (d .before .loop-test .taken) (d .if1 .left) (b .before .is-blocked .ensures) (b .if2 .left)
-    (c .before .before .before .before .before .put-message .ensures) (c .reset .ensures)
+    (c .before .before .before .before .before .before .before .put-message .ensures) (c .before .before .reset .ensures)
 
 same-length : tie.Need-same-length Inv-loop μ-loop
 same-length c = as-long (c .before .loop .inv .wrote)

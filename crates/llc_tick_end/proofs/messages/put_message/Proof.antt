@@ -15,6 +15,7 @@ use Rattle.llc_records.specs.Records.{maskIf, sent}
 use Rattle.llc_records.specs.declared.SentRecord.{SentRecord}
 use Rattle.llc_records.proofs.Wrote.{same-bytes}
 use Rattle.llc_state.specs.View.{placeBit, frameIn, sentIn}
+use Rattle.llc_state.specs.declared.TmaUnitdataReq.{TmaUnitdataReq}
 use Rattle.llc_state.specs.declared.Entry.{Entry}
 use Rattle.llc_state.proofs.Entry.{the-type}
 use Rattle.llc_state.proofs.Entry.Laws.{the-laws}
@@ -23,23 +24,23 @@ use Rattle.llc_tick_end.proofs.messages.put_message.Statement.{statemen
 use Rattle.llc_tick_end.proofs.messages.put_message.Tie as tie
 
 -- How long the array of a block is.
-block-long : (e : Entry) → Is (row the-type) e (S.vals the-type the-laws e) → length (e .block) ≡ 64
-block-long e p = sym (length-map (e .block) (λ (v : ℕ). v)) ∙ p .1 .1 .1 .1 .1 .1 .1 .1 .1 .1 .1 .1 .1 .0 .1 .0 .1
+block-long : (e : Entry) → Is (row the-type) e (S.vals the-type the-laws e) → length (e .sent .block) ≡ 64
+block-long e p = sym (length-map (e .sent .block) (λ (v : ℕ). v)) ∙ search p
 
--- What is taken from an entry, and that it is the message.
-abbrev sentOf : Entry → SentRecord
-sentOf e =
+-- What is taken of a message, and that it is the message.
+abbrev sentOf : TmaUnitdataReq → SentRecord
+sentOf r =
     record {
-      ssi = e .ssi;
-      «ssi_type» = e .«ssi_type»;
-      carrier = e .«carrier_num»;
-      link = e .«link_id»;
-      endpoint = e .«endpoint_id»;
-      handle = e .«req_handle»;
-      steal = e .«stealing_permission»;
-      «has_mask» = e .«has_mask»;
-      mask = e .mask;
-      receipt = e .receipt;
+      ssi = r .ssi;
+      «ssi_type» = r .«ssi_type»;
+      carrier = r .«carrier_num»;
+      link = r .«link_id»;
+      endpoint = r .«endpoint_id»;
+      handle = r .«req_handle»;
+      steal = r .«stealing_permission»;
+      «has_mask» = r .«has_mask»;
+      mask = r .mask;
+      receipt = r .receipt;
     }
 
 mask-is : (has : Bool) (m : ℕ) → maskIf has m ≡ cond has (some m) none
@@ -48,26 +49,12 @@ mask-is false m = refl
 
 message-is :
     (k : ℕ) (store : List ℕ) (e : Entry)
-    → sentBytes k (sent (sentOf e) (part (e .block) 0 (e .«block_len»)) (part store (e .place * placeBits) (e .len)))
+    → sentBytes k (sent (sentOf (e .sent)) (part (e .sent .block) 0 (e .sent .«block_len»)) (part store (e .frame .place * placeBits) (e .frame .len)))
     ≡ sentBytes k (sentIn store e)
 unfolding sentIn frameIn
 message-is k store e =
-    let place : e .place * placeBits ≡ placeBit (e .place) = omega arith in
-    λ i.
-    sentBytes k
-    (record {
-      ssi = e .ssi;
-      type = e .«ssi_type»;
-      carrier = e .«carrier_num»;
-      link = e .«link_id»;
-      endpoint = e .«endpoint_id»;
-      handle = e .«req_handle»;
-      steal = e .«stealing_permission»;
-      mask = mask-is (e .«has_mask») (e .mask) i;
-      receipt = e .receipt;
-      block = part (e .block) 0 (e .«block_len»);
-      pdu = part store (place i) (e .len);
-    })
+    let place : e .frame .place * placeBits ≡ placeBit (e .frame .place) = omega arith in
+    rw (place, mask-is (e .sent .«has_mask») (e .sent .mask))
 
 slice-aggregate-put-sent : tie.Need-slice-aggregate-put-sent
 slice-aggregate-put-sent c = search needs
@@ -77,7 +64,7 @@ mul-put-sent c = search needs
 
 put-sent-requires : tie.Need-put-sent-requires
 put-sent-requires c κs =
-    let s = c .before .before .before .before .before .before in
+    let s = c .before .before .before .before .before .before .before in
     let size = ap length (message-is (s .args .kind) (bits (s .args .store .now)) (s .args .e)) in
     let block = block-long (s .args .e) (s .good .1 .1 .1 .0) in
     omega (arith, s .pre, size, block)
@@ -87,7 +74,7 @@ same-length c = search needs
 
 returns : tie.Need-returns
 returns c =
-    let s = c .before .before .before .before .before .before .before .before .before in
+    let s = c .before .before .before .before .before .before .before .before .before .before in
     same-bytes (message-is (s .args .kind) (bits (s .args .store .now)) (s .args .e)) (c .before .before .put-sent .ensures)
 
 pub put-message-spec : {M : Type 1} → statement M

@@ -7,11 +7,11 @@ use Rattle.llc_state.specs.declared.State.{State}
 use Rattle.llc_state.proofs.InRange.{range-tells}
 use Rattle.llc_state.proofs.Lengths.{lengths}
 use Rattle.llc_steps.specs.Answers.{answer}
-use Rattle.llc_frames.proofs.Relaid.{counts}
-use Rattle.llc_frames.proofs.Reported.{isFinal, not-final, still-held, freed}
+use Rattle.llc_steps.proofs.Updates.{counts}
+use Rattle.llc_receipts.proofs.Reported.{isFinal, not-final, still-held, freed}
 use borrow.Author.Needs.{needs}
-use Rattle.llc_frames.proofs.reports.release.Statement.{statement}
-use Rattle.llc_frames.proofs.reports.release.Tie as tie
+use Rattle.llc_receipts.proofs.reports.release.Statement.{statement}
+use Rattle.llc_receipts.proofs.reports.release.Tie as tie
 
 -- The test of the receipt.
 abbrev tested : tie.After-is-in-final-state → Bool

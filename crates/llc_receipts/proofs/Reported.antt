@@ -1,27 +1,26 @@
 -- Reports and releases: what is answered on each path.
 use Prim.Native.Nat.{ℕ}
 use mathlib.Core.Path.{_≡_, _∙_, sym, ap}
-use mathlib.Core.Bool.{Bool, true, false, not, cond, _&&_}
+use mathlib.Core.Bool.{Bool, true, false, not, _&&_}
 use mathlib.Core.List.{List, []}
 use borrow.Author.Tests.{eq-eqb, ne-eqb}
-use lib.Dec.{eqb}
 use lib.ListN.{set}
 use Rattle.questions.specs.Outcome.{Outcome, accepted, refused}
 use Rattle.tx_receipt.specs.States.{is, final}
 use Rattle.tx_receipt.specs.Marks as Marks
 use Rattle.tx_receipt.specs.Marks.{Mark}
 use Rattle.tx_receipt.specs.declared.TxState.the-variants.{Pending}
+use Rattle.llc_rule.specs.Messages.{markOf}
 use Rattle.llc_rule.specs.Records.{allBytes}
 use Rattle.llc_rule.proofs.Lists.{and-true, and-false}
 use Rattle.llc_state.specs.Receipts.{receiptOf, placeOf, mark, withPlaces}
 use Rattle.llc_state.specs.States.{noReceipt}
-use Rattle.llc_state.specs.declared.ReceiptPlace.{ReceiptPlace}
 use Rattle.llc_state.specs.declared.State.{State}
 use Rattle.llc_steps.specs.Answers.{effect, answer, laidOut, delivered, WithAny}
 use Rattle.llc_steps.specs.Calls.{held, waits, withReceipts, onReport, onRelease}
 use Rattle.llc_steps.specs.States.{Kept, kept}
 use Rattle.llc_steps.specs.declared.Answer.{Answer}
-use Rattle.llc_frames.proofs.Relaid.{Counts, relaid-places}
+use Rattle.llc_steps.proofs.Updates.{Counts, relaid-places}
 
 -- A call that is refused, and one that leaves another state and writes no record.
 refused-any :
@@ -68,7 +67,7 @@ module _ (s : State) (i : ℕ) {r : Answer} where
       → Counts s
       → isPending s i ≡ true
       → waits i s ≡ false
-      → cond (eqb how 1) (mark Marks.transmitted i (s .receipts)) (mark Marks.discarded i (s .receipts)) ≡ mark k i (s .receipts)
+      → markOf how ≡ k
       → r ≡ answer 0 (withPlaces s (mark k i (s .receipts))) 0
       → WithAny r s (λ (store : List ℕ). onReport i how s store)
   unfolding onReport
@@ -77,7 +76,7 @@ module _ (s : State) (i : ℕ) {r : Answer} where
       accepted-any s (withPlaces s (mark k i (s .receipts))) (onReport i how s) e
       (λ store.
       rw yes
-      (ap (λ (ps : List ReceiptPlace). accepted (kept (withReceipts s ps) store [])) m
+      (ap (λ (m : Mark). accepted (kept (withReceipts s (mark m i (s .receipts))) store [])) m
       ∙ ap (λ (u : State). accepted (kept u store [])) (relaid-places s (mark k i (s .receipts)) c)))
 
   pub transmitted :

@@ -11,11 +11,11 @@ use Rattle.llc_state.specs.declared.ReceiptPlace.{ReceiptPlace}
 use Rattle.llc_state.proofs.InRange.{range-tells}
 use Rattle.llc_state.proofs.Lengths.{lengths}
 use Rattle.llc_steps.specs.Answers.{answer}
-use Rattle.llc_frames.proofs.Relaid.{counts}
-use Rattle.llc_frames.proofs.Reported.{isPending, not-pending, still-waits, transmitted, discarded}
+use Rattle.llc_steps.proofs.Updates.{counts}
+use Rattle.llc_receipts.proofs.Reported.{isPending, not-pending, still-waits, transmitted, discarded}
 use borrow.Author.Needs.{needs}
-use Rattle.llc_frames.proofs.reports.rx_tma_report_ind.Statement.{statement}
-use Rattle.llc_frames.proofs.reports.rx_tma_report_ind.Tie as tie
+use Rattle.llc_receipts.proofs.reports.rx_tma_report_ind.Statement.{statement}
+use Rattle.llc_receipts.proofs.reports.rx_tma_report_ind.Tie as tie
 
 -- The test of the receipt.
 abbrev tested : tie.After-raw → Bool
