@@ -16,10 +16,10 @@ use Rattle.llc_state.specs.declared.Entry.{Entry}
 use Rattle.llc_state.specs.declared.ReceiptPlace.{ReceiptPlace}
 use Rattle.llc_state.specs.declared.State.{State}
 use Rattle.llc_state.proofs.InRange.{entry-tells, message-tells}
-use Rattle.llc_steps.specs.Calls.{fits, finishable}
+use Rattle.llc_steps.specs.Calls.{fits, finishable, answeredBy}
 use Rattle.llc_steps.specs.Queues.{position, without, fronted}
 use Rattle.llc_steps.specs.States.{messagesOf, withMessages}
-use Rattle.llc_frames.specs.Answered.{foundIn, foundAt, answeredAt}
+use Rattle.llc_frames.specs.Answered.{foundIn, foundAt}
 
 module _ {A : Type 0} where
   -- What `find` gives is what stands in the place at which the search ends.
@@ -69,9 +69,10 @@ module _ (s : State) (i : ℕ) (nr : Bool) (long : s .«n_messages» ≤ length 
   none-finishes h =
       sym (ap (λ (f : Found Entry). finishable nr f s) (found-nothing (s .«n_messages») i (s .«outbound_messages») h))
 
-  pub none-answered : s .«n_messages» ≤ i → s ≡ answeredAt nr (foundAt i (messagesOf s)) s
+  pub none-answered : s .«n_messages» ≤ i → s ≡ answeredBy nr (foundAt i (messagesOf s)) s
+  unfolding answeredBy
   none-answered h =
-      sym (ap (λ (f : Found Entry). answeredAt nr f s) (found-nothing (s .«n_messages») i (s .«outbound_messages») h))
+      sym (ap (λ (f : Found Entry). answeredBy nr f s) (found-nothing (s .«n_messages») i (s .«outbound_messages») h))
 
   -- One does.
   module _ (d : Entry) (h : i < s .«n_messages») where
@@ -112,14 +113,16 @@ module _ (s : State) (i : ℕ) (nr : Bool) (long : s .«n_messages» ≤ length 
         → fits nr entry ≡ true
         → t ≡ withMessages s (without i (messagesOf s))
         → r ≡ markReceipt t (entry .sent .receipt) acknowledged
-        → r ≡ answeredAt nr (foundAt i (messagesOf s)) s
+        → r ≡ answeredBy nr (foundAt i (messagesOf s)) s
+    unfolding answeredBy
     fit-answered e f g =
         g
         ∙ ap (λ (u : State). markReceipt u (entry .sent .receipt) acknowledged) f
-        ∙ sym (ap (λ (u : Found Entry). answeredAt nr u s) found ∙ if-true _ _ e)
+        ∙ sym (ap (λ (u : Found Entry). answeredBy nr u s) found ∙ if-true _ _ e)
 
-    pub unfit-answered : fits nr entry ≡ false → withMessages s (fronted i (messagesOf s)) ≡ answeredAt nr (foundAt i (messagesOf s)) s
+    pub unfit-answered : fits nr entry ≡ false → withMessages s (fronted i (messagesOf s)) ≡ answeredBy nr (foundAt i (messagesOf s)) s
+    unfolding answeredBy
     unfit-answered e =
         let m : List Entry = messagesOf s in
         ap (λ (t : List Entry). withMessages s (take 1 t ++ without i m)) (array-next (s .«n_messages») i (s .«outbound_messages») d long h)
-        ∙ sym (ap (λ (f : Found Entry). answeredAt nr f s) found ∙ if-false _ _ e)
+        ∙ sym (ap (λ (f : Found Entry). answeredBy nr f s) found ∙ if-false _ _ e)

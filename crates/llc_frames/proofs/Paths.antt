@@ -3,8 +3,8 @@ use Prim.Native.Nat.{ℕ, _-_, _*_, _≤_}
 use native.Mathlib.Omega.{arith}
 use native.Mathlib.Nat.{zero-add}
 use mathlib.Core.Path.{_≡_, _∙_, refl, sym, ap, ap₂, subst}
-use mathlib.Core.Bool.{Bool, true, false, cond, _&&_}
-use mathlib.Core.List.{List, _∷_}
+use mathlib.Core.Bool.{Bool, true, false, _&&_}
+use mathlib.Core.List.{List}
 use mathlib.Core.Option.{Option, none, some}
 use borrow.Author.Tests.{leb-true, leb-false, lt-ltb, le-ltb}
 use lib.Dec.{leb}
@@ -12,13 +12,12 @@ use lib.ListN.{length, take, drop, length-take, length-drop}
 use Rattle.bits.specs.Bits.{bits, part}
 use Rattle.bits.proofs.Laws.{length-bits, part-take}
 use Rattle.questions.specs.Outcome.{Outcome, accepted, refused, ask}
-use Rattle.tx_receipt.specs.Marks.{acknowledged}
 use Rattle.llc_pdus.specs.Sdus.{sduAt, holding, handed, Part, numbered, handedBack}
 use Rattle.llc_pdus.specs.declared.Pdu.{Pdu}
 use Rattle.llc_pdus.specs.declared.Sdu.{Sdu}
 use Rattle.llc_pdus.proofs.Holding.{held-is, handed-in}
 use Rattle.llc_rule.specs.Limits.{outputBytes}
-use Rattle.llc_rule.specs.Lists.{Found, nothing, first}
+use Rattle.llc_rule.specs.Lists.{Found}
 use Rattle.llc_rule.specs.Received.{Received, received, nsOf, nrOf, upward}
 use Rattle.llc_rule.specs.Records.{Record, allBytes}
 use Rattle.llc_rule.proofs.Lists.{both}
@@ -27,23 +26,21 @@ use Rattle.llc_calls.specs.Ranges.{frameRange}
 use Rattle.llc_calls.specs.declared.FrameCall.{FrameCall}
 use Rattle.llc_records.specs.Wrote.{Wrote}
 use Rattle.llc_records.proofs.Wrote.{write-is}
-use Rattle.llc_state.specs.Receipts.{mark}
 use Rattle.llc_state.specs.declared.Entry.{Entry}
 use Rattle.llc_state.specs.declared.ScheduledOutAck.{ScheduledOutAck}
 use Rattle.llc_state.specs.declared.State.{State}
 use Rattle.llc_steps.specs.Answers.{effect, answer, laidOut, delivered, WithAnyStore}
-use Rattle.llc_steps.specs.Calls.{ackRoom, scheduled, expected, fits, finishable, mayFinish, answeredBy, answered, onReceived}
+use Rattle.llc_steps.specs.Calls.{ackRoom, scheduled, expected, finishable, mayFinish, answeredBy, answered, onReceived}
 use Rattle.llc_steps.specs.Queues.{position, expectedOn}
 use Rattle.llc_steps.specs.States.{messagesOf, withAcks, Kept, kept}
 use Rattle.llc_steps.specs.declared.Answer.{Answer}
-use Rattle.llc_frames.specs.Answered.{foundAt, answeredAt}
+use Rattle.llc_frames.specs.Answered.{foundAt}
 use Rattle.llc_frames.specs.Numbers.{numberIf, nsIn, nrIn, dueTo}
 use Rattle.llc_frames.specs.Reading.{readingOf, SduIn, SduInside}
 use Rattle.llc_frames.specs.Upward.{SduLent}
 use Rattle.llc_frames.specs.declared.frames.SeqNumbers.{SeqNumbers}
 use Rattle.llc_frames.specs.declared.reading.Reading.{Reading}
 use Rattle.llc_frames.proofs.Found.{found-is}
-use Rattle.llc_steps.proofs.Updates.{Counts, relaid-some, relaid-acks}
 use Rattle.llc_frames.proofs.Upward.{up-size, frame-small, lent}
 
 -- A call that is refused, and one that writes records and leaves another state.
@@ -97,17 +94,6 @@ expected-is :
 unfolding frameOf expected
 expected-is f b s e =
     found-is (expectedOn (f .ssi) (f .carrier)) (messagesOf s) ∙ sym (ap (λ (k : ℕ). foundAt k (messagesOf s)) e)
-
-answered-is :
-    (nr : Bool) (found : Found Entry) (ds : List ScheduledOutAck) (s : State)
-    → Counts s
-    → answeredBy nr found ds s ≡ answeredAt nr found (withAcks s ds)
-unfolding answeredBy
-answered-is nr nothing ds s c = relaid-acks s ds (s .receipts) c
-answered-is nr (first e es) ds s c =
-    ap₂ (cond (fits nr e))
-    (relaid-some s es ds (mark acknowledged (e .sent .receipt) (s .receipts)) c)
-    (relaid-some s (e ∷ es) ds (s .receipts) c)
 
 -- A question passed, and one failed.
 ask-yes : {A : Type 0} (n : ℕ) {b : Bool} (o : Outcome A) → b ≡ true → ask n b o ≡ o
@@ -167,7 +153,7 @@ module _
         {r : Answer} {t : State} {out m : List ℕ} {k : ℕ}
         → full ≡ false
         → mayFinish (frameOf f b) (nrOf p) s ≡ true
-        → answered (frameOf f b) (nrOf p) (scheduled (frameOf f b) (nsOf p) s) s ≡ t
+        → answered (frameOf f b) (nrOf p) (withAcks s (scheduled (frameOf f b) (nsOf p) s)) ≡ t
         → frameRange f ≡ true
         → SduLent l place len
         → outputBytes ≤ length out
@@ -188,7 +174,6 @@ module _
     -- No N(R).
     pub no-nr :
         {r : Answer} {t : State} {out m : List ℕ} {k : ℕ}
-        → Counts s
         → full ≡ false
         → n .«has_nr» ≡ false
         → t ≡ withAcks s (dueTo f (nsIn n) s)
@@ -198,12 +183,10 @@ module _
         → r ≡ answer 0 t k
         → Wrote out 0 (allBytes (upward (frameOf f b) p sdu)) m k
         → WithAnyStore r m s out outcome
-    no-nr c h none-is u range inside long e w =
+    no-nr h none-is u range inside long e w =
         let none-in : nrOf p ≡ none = sym nr-is ∙ ap (λ (t : Bool). numberIf t (n .nr)) none-is in
         passed h (ap (λ (o : Option Bool). mayFinish (frameOf f b) o s) none-in)
-        (ap₂ (λ (o : Option Bool) (ds : List ScheduledOutAck). answered (frameOf f b) o ds s) none-in due-is
-        ∙ relaid-acks s (dueTo f (nsIn n) s) (s .receipts) c
-        ∙ sym u)
+        (ap₂ (λ (o : Option Bool) (ds : List ScheduledOutAck). answered (frameOf f b) o (withAcks s ds)) none-in due-is ∙ sym u)
         range inside long e w
 
     -- An N(R), for the message of a place.
@@ -227,23 +210,22 @@ module _
 
       pub with-nr :
           {r : Answer} {next t : State} {out m : List ℕ} {k : ℕ}
-          → Counts s
           → full ≡ false
           → finishable (n .nr) (foundAt i (messagesOf s)) s ≡ true
           → next ≡ withAcks s (dueTo f (nsIn n) s)
-          → t ≡ answeredAt (n .nr) (foundAt i (messagesOf next)) next
+          → t ≡ answeredBy (n .nr) (foundAt i (messagesOf next)) next
           → frameRange f ≡ true
           → SduLent l place len
           → outputBytes ≤ length out
           → r ≡ answer 0 t k
           → Wrote out 0 (allBytes (upward (frameOf f b) p sdu)) m k
           → WithAnyStore r m s out outcome
-      with-nr {next = next} c h q v u range inside long e w =
+      with-nr {next = next} h q v u range inside long e w =
+          let due : State = withAcks s (dueTo f (nsIn n) s) in
           passed h (may-finish ∙ q)
-          (ap₂ (λ (o : Option Bool) (ds : List ScheduledOutAck). answered (frameOf f b) o ds s) some-in due-is
-          ∙ ap (λ (x : Found Entry). answeredBy (n .nr) x (dueTo f (nsIn n) s) s) (expected-is f b s i-is)
-          ∙ answered-is (n .nr) (foundAt i (messagesOf s)) (dueTo f (nsIn n) s) s c
-          ∙ ap (λ (x : State). answeredAt (n .nr) (foundAt i (messagesOf x)) x) (sym v)
+          (ap₂ (λ (o : Option Bool) (ds : List ScheduledOutAck). answered (frameOf f b) o (withAcks s ds)) some-in due-is
+          ∙ ap (λ (x : Found Entry). answeredBy (n .nr) x due) (expected-is f b due i-is)
+          ∙ ap (λ (x : State). answeredBy (n .nr) (foundAt i (messagesOf x)) x) (sym v)
           ∙ sym u)
           range inside long e w
 

@@ -17,9 +17,9 @@ ghost use Rattle.llc_calls.specs.Ranges.{frameRange};
 ghost use Rattle.llc_records.specs.Wrote.{Wrote};
 ghost use Rattle.llc_state.specs.Ranges.{messageInRange, inRange};
 ghost use Rattle.llc_steps.specs.Answers.{WithAnyStore};
-ghost use Rattle.llc_steps.specs.Calls.{ackRoom, fits as fitsTo, finishable, onReceived};
+ghost use Rattle.llc_steps.specs.Calls.{ackRoom, fits as fitsTo, finishable, answeredBy, onReceived};
 ghost use Rattle.llc_steps.specs.States.{messagesOf, withAcks};
-ghost use Rattle.llc_frames.specs.Answered.{foundAt, answeredAt};
+ghost use Rattle.llc_frames.specs.Answered.{foundAt};
 ghost use Rattle.llc_frames.specs.Numbers.{nsIn, nrIn, dueTo};
 ghost use Rattle.llc_frames.specs.Upward.{sentUp, SduLent};
 use crate::reading::Reading;
@@ -195,7 +195,7 @@ fn may_finish(state: State, i: usize, nr: bool) -> bool
 fn process_incoming_ack(state: State, i: usize, nr: bool) -> State
     requires { ⌜ state .«n_messages» ≤ 64 ⌝ }
     requires { ⌜ all messageInRange (messagesOf state) ≡ true ⌝ }
-    ensures { λ r. ⌜ r ≡ answeredAt nr (foundAt i (messagesOf state)) state ⌝ }
+    ensures { λ r. ⌜ r ≡ answeredBy nr (foundAt i (messagesOf state)) state ⌝ }
 {
     if state.n_messages <= i {
         return state;

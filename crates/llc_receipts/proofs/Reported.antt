@@ -17,10 +17,9 @@ use Rattle.llc_state.specs.Receipts.{receiptOf, placeOf, mark, withPlaces}
 use Rattle.llc_state.specs.States.{noReceipt}
 use Rattle.llc_state.specs.declared.State.{State}
 use Rattle.llc_steps.specs.Answers.{effect, answer, laidOut, delivered, WithAny}
-use Rattle.llc_steps.specs.Calls.{held, waits, withReceipts, onReport, onRelease}
+use Rattle.llc_steps.specs.Calls.{held, waits, onReport, onRelease}
 use Rattle.llc_steps.specs.States.{Kept, kept}
 use Rattle.llc_steps.specs.declared.Answer.{Answer}
-use Rattle.llc_steps.proofs.Updates.{Counts, relaid-places}
 
 -- A call that is refused, and one that leaves another state and writes no record.
 refused-any :
@@ -64,40 +63,34 @@ module _ (s : State) (i : ℕ) {r : Answer} where
 
   marked-as :
       (how : ℕ) (k : Mark)
-      → Counts s
       → isPending s i ≡ true
       → waits i s ≡ false
       → markOf how ≡ k
       → r ≡ answer 0 (withPlaces s (mark k i (s .receipts))) 0
       → WithAny r s (λ (store : List ℕ). onReport i how s store)
   unfolding onReport
-  marked-as how k c p w m e =
+  marked-as how k p w m e =
       let yes : isPending s i && not (waits i s) ≡ true = and-true p (ap not w) in
       accepted-any s (withPlaces s (mark k i (s .receipts))) (onReport i how s) e
-      (λ store.
-      rw yes
-      (ap (λ (m : Mark). accepted (kept (withReceipts s (mark m i (s .receipts))) store [])) m
-      ∙ ap (λ (u : State). accepted (kept u store [])) (relaid-places s (mark k i (s .receipts)) c)))
+      (λ store. rw yes (ap (λ (m : Mark). accepted (kept (withPlaces s (mark m i (s .receipts))) store [])) m))
 
   pub transmitted :
       (how : ℕ)
-      → Counts s
       → isPending s i ≡ true
       → waits i s ≡ false
       → how ≡ 1
       → r ≡ answer 0 (withPlaces s (mark Marks.transmitted i (s .receipts))) 0
       → WithAny r s (λ (store : List ℕ). onReport i how s store)
-  transmitted how c p w h e = marked-as how Marks.transmitted c p w (rw (eq-eqb how 1 h)) e
+  transmitted how p w h e = marked-as how Marks.transmitted p w (rw (eq-eqb how 1 h)) e
 
   pub discarded :
       (how : ℕ)
-      → Counts s
       → isPending s i ≡ true
       → waits i s ≡ false
       → (how ≡ 1 → ⊥)
       → r ≡ answer 0 (withPlaces s (mark Marks.discarded i (s .receipts))) 0
       → WithAny r s (λ (store : List ℕ). onReport i how s store)
-  discarded how c p w h e = marked-as how Marks.discarded c p w (rw (ne-eqb how 1 h)) e
+  discarded how p w h e = marked-as how Marks.discarded p w (rw (ne-eqb how 1 h)) e
 
   -- A release of a receipt that is not final, or whose message is held; the receipt freed.
   pub not-final : isFinal s i ≡ false → r ≡ answer 16 s 0 → WithAny r s (λ (store : List ℕ). onRelease i s store)
@@ -111,14 +104,11 @@ module _ (s : State) (i : ℕ) {r : Answer} where
       refused-any 16 s (onRelease i s) e (λ store. rw no)
 
   pub freed :
-      Counts s
-      → isFinal s i ≡ true
+      isFinal s i ≡ true
       → held i s ≡ false
       → r ≡ answer 0 (withPlaces s (set (s .receipts) i noReceipt)) 0
       → WithAny r s (λ (store : List ℕ). onRelease i s store)
   unfolding onRelease
-  freed c p h e =
+  freed p h e =
       let yes : isFinal s i && not (held i s) ≡ true = and-true p (ap not h) in
-      let t : State = withPlaces s (set (s .receipts) i noReceipt) in
-      accepted-any s t (onRelease i s) e
-      (λ store. rw yes (ap (λ (u : State). accepted (kept u store [])) (relaid-places s (set (s .receipts) i noReceipt) c)))
+      accepted-any s (withPlaces s (set (s .receipts) i noReceipt)) (onRelease i s) e (λ store. rw yes)

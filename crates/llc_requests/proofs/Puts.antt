@@ -36,10 +36,9 @@ use Rattle.llc_steps.specs.Answers.{effect, answer, laidOut, WithAnyOut}
 use Rattle.llc_steps.specs.Calls.{entryOf, carrierFor, ackFor, seqOf, withSeq, dataPdu, withAcknowledged, withUnacknowledged}
 use Rattle.llc_steps.specs.Places.{freePlace}
 use Rattle.llc_steps.specs.Queues.{position, without, placed, ackOn, rowOf}
-use Rattle.llc_steps.specs.States.{messagesOf, udataOf, acksOf, rowsOf, withMessages, withUdata, withAcks, withRows, relaid, Kept}
+use Rattle.llc_steps.specs.States.{messagesOf, udataOf, acksOf, rowsOf, withMessages, withUdata, withAcks, withRows, Kept}
 use Rattle.llc_steps.specs.declared.Answer.{Answer}
 use Rattle.llc_steps.proofs.Places.{free-place}
-use Rattle.llc_steps.proofs.Updates.{same-messages, same-udata, same-rows}
 use Rattle.llc_queues.proofs.Search.{position-most, found-at, found-none, others-without, seq-at, seq-none, with-seq}
 
 -- What question 5 tells of a request.
@@ -119,30 +118,6 @@ unfolding laidOut allBytes
 no-records s before after r k e f g =
     record { each = λ out. rw g (ap₂ (λ (a : Answer) (l : List ℕ). effect a l out) e f) }
 
--- The code's order of the updates of a message that is to be acknowledged, and of one that is not.
-abbrev acknowledgedly : State → List ScheduledOutAck → List Entry → List ReceiptPlace → List LinkSendSeq → State
-acknowledgedly s ds ms ps rs = withRows (withPlaces (withMessages (withAcks s ds) ms) ps) rs
-
-abbrev unacknowledgedly : State → List ScheduledOutAck → List Entry → List ReceiptPlace → State
-unacknowledgedly s ds us ps = withPlaces (withUdata (withAcks s ds) us) ps
-
-relaid-acknowledgedly :
-    (s : State) (ds : List ScheduledOutAck) (ms : List Entry) (ps : List ReceiptPlace) (rs : List LinkSendSeq)
-    → s .«n_udata» ≤ length (s .«outbound_udata_messages»)
-    → acknowledgedly s ds ms ps rs ≡ relaid s ms (udataOf s) ds ps rs
-unfolding relaid
-relaid-acknowledgedly s ds ms ps rs h = ap (λ (t : State). acknowledgedly t ds ms ps rs) (sym (same-udata s h))
-
-relaid-unacknowledgedly :
-    (s : State) (ds : List ScheduledOutAck) (us : List Entry) (ps : List ReceiptPlace)
-    → s .«n_messages» ≤ length (s .«outbound_messages»)
-    → s .«n_rows» ≤ length (s .«link_send_seq»)
-    → unacknowledgedly s ds us ps ≡ relaid s (messagesOf s) us ds ps (rowsOf s)
-unfolding relaid
-relaid-unacknowledgedly s ds us ps h k =
-    ap (λ (t : State). unacknowledgedly t ds us ps) (sym (same-rows s k))
-    ∙ ap (λ (t : State). unacknowledgedly (withRows t (rowsOf s)) ds us ps) (sym (same-messages s h))
-
 -- A message that is to be acknowledged, from what each step of the code gives.
 pub put-acknowledged :
     (r : Request) (s : State) (before after : List ℕ) (row : ℕ)
@@ -191,21 +166,13 @@ put-acknowledged r s before after row {carrier} {ack} {ns} {pdu} {place} {len} {
     let rows : placed (record { ssi = r .ssi; vs = not ns }) row (rowsOf s) ≡ withSeq (r .ssi) (not seq) (rowsOf s) =
     rows-with (r .ssi) (rowsOf s) row-is (ap not bit)
     in
-    let steps :
-    s₄
-    ≡ acknowledgedly s (without ack ds) (messagesOf s ++ (e ∷ [])) places (placed (record { ssi = r .ssi; vs = not ns }) row (rowsOf s)) =
+    let state : s₄ ≡ withAcknowledged r s before .state =
     s₄-is
     ∙ ap (λ (t : State). withRows t (placed (record { ssi = r .ssi; vs = not ns }) row (rowsOf t)))
     (s₃-is
     ∙ ap (λ (t : State). takeReceipt t (r .receipt) true)
     (s₂-is ∙ ap (λ (t : State). withMessages t (messagesOf t ++ (e ∷ []))) s₁-is))
-    in
-    let state : s₄ ≡ withAcknowledged r s before .state =
-    steps
-    ∙ relaid-acknowledgedly s (without ack ds) (messagesOf s ++ (e ∷ [])) places
-    (placed (record { ssi = r .ssi; vs = not ns }) row (rowsOf s))
-    (omega (arith, long .udata, head .udata))
-    ∙ (λ i. relaid s (messagesOf s ++ (entry i ∷ [])) (udataOf s) (dues i) places (rows i))
+    ∙ (λ i. withRows (withPlaces (withAcks (withMessages s (messagesOf s ++ (entry i ∷ []))) (dues i)) places) (rows i))
     in
     no-records s before after x (withAcknowledged r s before)
     (x-is ∙ ap (λ (t : State). answer 0 t 0) state)
@@ -216,8 +183,6 @@ put-acknowledged r s before after row {carrier} {ack} {ns} {pdu} {place} {len} {
 pub put-unacknowledged :
     (r : Request) (s : State) (before after : List ℕ) (link : ℕ) (pdu : Pdu) (ack : ℕ)
     {carrier place len : ℕ} {e : Entry} {s₁ s₂ s₃ : State} {x : Answer}
-    → Lengths s
-    → inRange s ≡ true
     → carrier ≡ carrierFor r s
     → place ≡ freePlace s
     → after ≡ splice before (placeBit place) (frameBits pdu (r .sdu))
@@ -229,26 +194,19 @@ pub put-unacknowledged :
     → x ≡ answer 0 s₃ 0
     → WithAnyOut x after s before (accepted (withUnacknowledged r link pdu (without ack (acksOf s)) s before))
 unfolding withUnacknowledged
-put-unacknowledged r s before after link pdu ack {carrier} {place} {len} {e} {s₁} {s₂} {s₃} {x} long ok
+put-unacknowledged r s before after link pdu ack {carrier} {place} {len} {e} {s₁} {s₂} {s₃} {x}
     carrier-is place-is after-is len-is e-is s₁-is s₂-is s₃-is x-is =
-    let head = range-tells s ok .head in
     let ds : List ScheduledOutAck = without ack (acksOf s) in
     let pdus : List ℕ = frameBits pdu (r .sdu) in
     let places : List ReceiptPlace = set (s .receipts) (r .receipt) (pendingPlace false) in
     let entry : e ≡ entryOf r (carrierFor r s) link (freePlace s) (length pdus) false =
     e-is ∙ (λ i. entryOf r (carrier-is i) link (place-is i) (len-is i) false)
     in
-    let steps : s₃ ≡ unacknowledgedly s ds (udataOf s ++ (e ∷ [])) places =
+    let state : s₃ ≡ withUnacknowledged r link pdu ds s before .state =
     s₃-is
     ∙ ap (λ (t : State). takeReceipt t (r .receipt) false)
     (s₂-is ∙ ap (λ (t : State). withUdata t (udataOf t ++ (e ∷ []))) s₁-is)
-    in
-    let state : s₃ ≡ withUnacknowledged r link pdu ds s before .state =
-    steps
-    ∙ relaid-unacknowledgedly s ds (udataOf s ++ (e ∷ [])) places
-    (omega (arith, long .messages, head .messages))
-    (omega (arith, long .rows, head .rows))
-    ∙ ap (λ (t : Entry). relaid s (messagesOf s) (udataOf s ++ (t ∷ [])) ds places (rowsOf s)) entry
+    ∙ ap (λ (t : Entry). withPlaces (withAcks (withUdata s (udataOf s ++ (t ∷ []))) ds) places) entry
     in
     no-records s before after x (withUnacknowledged r link pdu ds s before)
     (x-is ∙ ap (λ (t : State). answer 0 t 0) state)

@@ -16,8 +16,8 @@ use Rattle.llc_rule.specs.Ranges.{requestInRange, frameInRange}
 use Rattle.llc_rule.specs.Records.{Record, acknowledged, Sent}
 use Rattle.llc_rule.specs.Received.{nsOf, nrOf}
 use Rattle.llc_rule.specs.Messages.{Message, Due, Place, placeAt, taken?, reported, hasTime, overdue, slotBefore, carrierOf, sentOf}
-use Rattle.llc_rule.specs.Link.{Link, startedWith, withReceipts}
-use Rattle.llc_rule.specs.Step.{dueFor, withAcknowledged, withUnacknowledged, withDue, awaiting, fits, answeredBy, answered, dueNow, stay, timed, agedBy, retransmission, Sending, firstSending, retransmissions, firstSendings, onTickEnd, step}
+use Rattle.llc_rule.specs.Link.{Link, startedWith, withReceipts, dueNow}
+use Rattle.llc_rule.specs.Step.{dueFor, withAcknowledged, withUnacknowledged, withDue, awaiting, fits, answeredBy, answered, stay, timed, agedBy, retransmission, Sending, firstSending, retransmissions, firstSendings, onTickEnd, step}
 use Rattle.llc_rule.specs.Runs.{left}
 use Rattle.llc_rule.specs.Sound.{All}
 use Rattle.llc_rule.proofs.Lists.{either, all-append, Split, FoundBy, find-by, TakenOut, found-out}

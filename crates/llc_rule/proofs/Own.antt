@@ -17,7 +17,7 @@ use Rattle.llc_rule.specs.Records.{Record, ssiOf, Sent}
 use Rattle.llc_rule.specs.Messages.{Message, Due, Place, free, placeAt, mark}
 use Rattle.llc_rule.specs.Done.{Done, done}
 use Rattle.llc_rule.specs.Link.{Link, Row, bitOf, withBit}
-use Rattle.llc_rule.specs.Rule.{Own, keeping}
+use Rattle.llc_rule.specs.Rule.{Own, keepingBit, keepingAcknowledged, keepingUnacknowledged, keepingDue, keepingReceipts}
 use Rattle.llc_rule.specs.Past.{Holders, holding, isHolder}
 use Rattle.llc_rule.specs.Sound.{All, ofAddress}
 use Rattle.llc_rule.proofs.Places.{place-set, place-mark, length-mark}
@@ -74,7 +74,8 @@ pub own-parts :
     → keep (sentTo a) (l′ .unacknowledged) ≡ us
     → keep (dueTo a) (l′ .due) ≡ ds
     → blank a h′ (l′ .receipts) ≡ ps
-    → own a h′ l′ ≡ keeping (own a h l) b ms us ds ps
+    → own a h′ l′
+    ≡ keepingReceipts (keepingDue (keepingUnacknowledged (keepingAcknowledged (keepingBit (own a h l) b) ms) us) ds) ps
 unfolding own
 own-parts a h h′ l l′ all bits messages sents dues places =
     λ i.

@@ -21,8 +21,8 @@ use Rattle.llc_rule.specs.Records.{Record}
 use Rattle.llc_rule.specs.Received.{Received, checks, checked, received, nsOf, nrOf, upward}
 use Rattle.llc_rule.specs.Messages.{Due, free, mark, markOf}
 use Rattle.llc_rule.specs.Done.{Done, done}
-use Rattle.llc_rule.specs.Link.{Link, startedWith, withTime, withReceipts}
-use Rattle.llc_rule.specs.Step.{isDueFor, dueFor, receiptFree, rowFor, acknowledgedPlace, unacknowledgedPlace, onAcknowledgedPath, withAcknowledged, withUnacknowledged, withStolen, onData, onUnitdata, dueRoom, withDue, mayFinish, answered, dueNow, onReceived, onFrame, reportable, onReport, releasable, onRelease, onTickEnd, onReceipt, act, called, step}
+use Rattle.llc_rule.specs.Link.{Link, startedWith, withTime, withReceipts, dueNow}
+use Rattle.llc_rule.specs.Step.{isDueFor, dueFor, receiptFree, rowFor, acknowledgedPlace, unacknowledgedPlace, onAcknowledgedPath, withAcknowledged, withUnacknowledged, withStolen, onData, onUnitdata, dueRoom, withDue, mayFinish, answered, onReceived, onFrame, reportable, onReport, releasable, onRelease, onTickEnd, onReceipt, act, called, step}
 use Rattle.llc_rule.proofs.Lists.{by-test, by-choice, both, any-append, find-by, TakenOut, found-out}
 
 -- The numbers of refusals ---------------------------------------------------------------------------------------------------

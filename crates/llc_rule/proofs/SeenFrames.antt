@@ -15,9 +15,9 @@ use Rattle.llc_rule.specs.Calls.{Frame}
 use Rattle.llc_rule.specs.Records.{Record, dataUp, ssiOf}
 use Rattle.llc_rule.specs.Received.{Received, nsOf, nrOf, indication, unlessEmpty, upward}
 use Rattle.llc_rule.specs.Messages.{Message, Due, Place, mark, slotBefore}
-use Rattle.llc_rule.specs.Link.{Link, withQueues, bitOf}
-use Rattle.llc_rule.specs.Step.{dueRoom, withDue, awaiting, fits, finishable, mayFinish, answeredBy, answered, dueNow, onReceived}
-use Rattle.llc_rule.specs.Rule.{Own, keeping, madeDue, theOne, oneTransmitted, canFinish, finished, heard, afterReceived}
+use Rattle.llc_rule.specs.Link.{Link, acknowledgedNow, dueNow, withReceipts, bitOf}
+use Rattle.llc_rule.specs.Step.{dueRoom, withDue, awaiting, fits, finishable, mayFinish, answeredBy, answered, onReceived}
+use Rattle.llc_rule.specs.Rule.{Own, keepingAcknowledged, keepingDue, keepingReceipts, madeDue, theOne, oneTransmitted, canFinish, finished, heard, afterReceived}
 use Rattle.llc_rule.specs.Past.{Holders, isHolder}
 use Rattle.llc_rule.specs.Sound.{All, Owned, ofAddress, oneAhead, Sound}
 use Rattle.llc_rule.proofs.Lists.{by-test, both, neither, if-true, if-false, and-true, and-false, keep-yes, keep-no, keep-append, Split, FoundBy, find-by, all-back}
@@ -161,11 +161,10 @@ module _ (f : Frame) (h : Holders) (l : Link) (ok : Sound h l) where
 
   -- The link and what the rule keeps, with other acknowledged messages, acknowledgements due and receipts.
   abbrev linkWith : List Message → List Due → List Place → Link
-  linkWith ms ds ps = withQueues l ms (l .unacknowledged) ds ps (l .rows)
+  linkWith ms ds ps = withReceipts (dueNow (acknowledgedNow l ms) ds) ps
 
   abbrev ownWith : List Message → List Due → List Place → Own
-  ownWith ms ds ps =
-      keeping (own (f .ssi) h l) (bitOf (f .ssi) (l .rows)) ms (keep (sentTo (f .ssi)) (l .unacknowledged)) ds ps
+  ownWith ms ds ps = keepingReceipts (keepingDue (keepingAcknowledged (own (f .ssi) h l) ms) ds) ps
 
   own-with : (ms : List Message) (ds : List Due) (ps : List Place) (ns : List Message) (qs : List Place) → ofAddress (f .ssi) ms ≡ ns → blank (f .ssi) h ps ≡ qs
       → own (f .ssi) h (linkWith ms ds ps) ≡ ownWith ns (keep (dueTo (f .ssi)) ds) qs
@@ -179,7 +178,7 @@ module _ (f : Frame) (h : Holders) (l : Link) (ok : Sound h l) where
       → awaiting f l ≡ x
       → theOne (own (f .ssi) h l) ≡ t
       → Looked f x t
-      → own (f .ssi) h (answeredBy nr x (dueNow l ds)) ≡ finished f nr t (keep (dueTo (f .ssi)) ds) (own (f .ssi) h l)
+      → own (f .ssi) h (answeredBy nr x (dueNow l ds)) ≡ finished f nr t (keepingDue (own (f .ssi) h l) (keep (dueTo (f .ssi)) ds))
   unfolding own answeredBy theOne
   finish nr ds x t e g no-one = refl
   finish nr ds x t e g (elsewhere m ms c) = rw c
@@ -205,8 +204,8 @@ module _ (f : Frame) (h : Holders) (l : Link) (ok : Sound h l) where
       ∙ own-with (m ∷ xs) ds (l .receipts) (ofAddress a (l .acknowledged)) (blank a h (l .receipts)) was refl
       ∙ sym (if-false gone-own same-own (and-false (onCarrier f m) u)))
 
-  heard-own : (x : Option Bool) (ds : List Due) → own (f .ssi) h (answered f x (dueNow l ds)) ≡ heard f x (keep (dueTo (f .ssi)) ds) (own (f .ssi) h l)
-  unfolding own awaiting
+  heard-own : (x : Option Bool) (ds : List Due) → own (f .ssi) h (answered f x (dueNow l ds)) ≡ heard f x (keepingDue (own (f .ssi) h l) (keep (dueTo (f .ssi)) ds))
+  unfolding own awaiting theOne
   heard-own none ds = refl
   heard-own (some nr) ds = finish nr ds (awaiting f l) (theOne (own (f .ssi) h l)) refl refl looked
 
@@ -260,10 +259,10 @@ module _ (a : ℕ) (f : Frame) (h : Holders) (l : Link) (ok : Sound h l) (other 
       → ofAddress a ms ≡ ofAddress a (l .acknowledged)
       → keep (dueTo a) ds ≡ keep (dueTo a) (l .due)
       → blank a h ps ≡ blank a h (l .receipts)
-      → own a h (withQueues l ms (l .unacknowledged) ds ps (l .rows)) ≡ own a h l
+      → own a h (withReceipts (dueNow (acknowledgedNow l ms) ds) ps) ≡ own a h l
   unfolding own
   same-with ms ds ps e d g =
-      own-parts a h h l (withQueues l ms (l .unacknowledged) ds ps (l .rows)) refl refl e refl d g
+      own-parts a h h l (withReceipts (dueNow (acknowledgedNow l ms) ds) ps) refl refl e refl d g
 
   answered-other :
       (nr : Bool) (ds : List Due) (x : Found Message)
@@ -274,8 +273,8 @@ module _ (a : ℕ) (f : Frame) (h : Holders) (l : Link) (ok : Sound h l) (other 
   answered-other nr ds nothing e d = same-with (l .acknowledged) ds (l .receipts) refl d refl
   answered-other nr ds (first m xs) e d =
       let i : ℕ = m .sent .receipt in
-      let gone : Link = withQueues l xs (l .unacknowledged) ds (mark Marks.acknowledged i (l .receipts)) (l .rows) in
-      let moved : Link = withQueues l (m ∷ xs) (l .unacknowledged) ds (l .receipts) (l .rows) in
+      let gone : Link = withReceipts (dueNow (acknowledgedNow l xs) ds) (mark Marks.acknowledged i (l .receipts)) in
+      let moved : Link = dueNow (acknowledgedNow l (m ∷ xs)) ds in
       by-test (fits nr m)
       (λ u.
       ap (own a h) (if-true gone moved u)

@@ -16,7 +16,7 @@ use Rattle.llc_rule.specs.Records.{Sent}
 use Rattle.llc_rule.specs.Messages.{Message, Due, Place, free, taken, placeAt, isFree, pending, waiting, carrierOf, sentOf}
 use Rattle.llc_rule.specs.Link.{Link, bitOf}
 use Rattle.llc_rule.specs.Step.{isDueFor, dueFor, onAcknowledgedPath, dataPdu, withAcknowledged, withUnacknowledged, withStolen}
-use Rattle.llc_rule.specs.Rule.{Own, keeping, dueOn, requested, afterData, afterUnitdata}
+use Rattle.llc_rule.specs.Rule.{Own, keepingBit, keepingAcknowledged, keepingUnacknowledged, keepingDue, keepingReceipts, dueOn, requested, afterData, afterUnitdata}
 use Rattle.llc_rule.specs.Past.{Holders, holding, isHolder}
 use Rattle.llc_rule.specs.Sound.{ofAddress}
 use Rattle.llc_rule.proofs.Lists.{by-test, both, keep-append, find-by, TakenOut, found-out}
@@ -45,12 +45,14 @@ rule-acknowledged :
     → steals r ≡ false
     → eqb (r .type) 1 ≡ true
     → afterData r o
-    ≡ keeping o
+    ≡ keepingBit
+    (keepingReceipts
+    (keepingDue
+    (keepingAcknowledged o
+    (o .acknowledged ++ (waiting (sentOf r (carrierOf (o .carrier) r) 0 (dataPdu r (o .bit) f)) (o .bit) ∷ [])))
+    (others f (o .due)))
+    (set (o .receipts) (r .receipt) (pending true)))
     (not (o .bit))
-    (o .acknowledged ++ (waiting (sentOf r (carrierOf (o .carrier) r) 0 (dataPdu r (o .bit) f)) (o .bit) ∷ []))
-    (o .unacknowledged)
-    (others f (o .due))
-    (set (o .receipts) (r .receipt) (pending true))
 unfolding afterData requested
 rule-acknowledged r o nothing e s t = rw (e, s, t)
 rule-acknowledged r o (first d ds) e s t = rw (e, s, t)
@@ -88,33 +90,27 @@ acknowledged-own r h l s t lt =
     own-parts a h (holding (r .receipt) (some (r .ssi)) h) l (withAcknowledged r l) refl bits messages refl dues places
     ∙ sym (rule-acknowledged r (own a h l) (keepFound (dueTo a) (dueFor r l)) (due-own r h l) s t)
 
+-- What the rule keeps after an unacknowledged message, with the acknowledgements that are left due.
+abbrev ruleUnacknowledged : Request → ℕ → Pdu → List Due → Own → Own
+ruleUnacknowledged r k p ds o =
+    keepingReceipts
+    (keepingDue
+    (keepingUnacknowledged o (o .unacknowledged ++ (sentOf r (carrierOf (o .carrier) r) k p ∷ [])))
+    ds)
+    (set (o .receipts) (r .receipt) (pending false))
+
 -- An unacknowledged message put last, its own address's.
 unacknowledged-own :
     (r : Request) (h : Holders) (l : Link) (k : ℕ) (p : Pdu) (ds : List Due)
     → r .receipt < length (l .receipts)
     → own (r .ssi) (holding (r .receipt) (some (r .ssi)) h) (withUnacknowledged r k p ds l)
-    ≡ keeping (own (r .ssi) h l)
-    (bitOf (r .ssi) (l .rows))
-    (ofAddress (r .ssi) (l .acknowledged))
-    (keep (sentTo (r .ssi)) (l .unacknowledged) ++ (sentOf r (carrierOf (l .carrier) r) k p ∷ []))
-    (keep (dueTo (r .ssi)) ds)
-    (set (blank (r .ssi) h (l .receipts)) (r .receipt) (pending false))
+    ≡ ruleUnacknowledged r k p (keep (dueTo (r .ssi)) ds) (own (r .ssi) h l)
 unfolding own withUnacknowledged
 unacknowledged-own r h l k p ds lt =
     let a : ℕ = r .ssi in
     let messages = last-own r (carrierOf (l .carrier) r) k p (l .unacknowledged) in
     let places = blank-set a h (r .receipt) (some a) (pending false) (l .receipts) lt (rw (eq-eqb a a refl)) in
     own-parts a h (holding (r .receipt) (some (r .ssi)) h) l (withUnacknowledged r k p ds l) refl refl refl messages refl places
-
--- What the rule keeps after an unacknowledged message, with the acknowledgements that are left due.
-abbrev ruleUnacknowledged : Request → ℕ → Pdu → List Due → Own → Own
-ruleUnacknowledged r k p ds o =
-    keeping o
-    (o .bit)
-    (o .acknowledged)
-    (o .unacknowledged ++ (sentOf r (carrierOf (o .carrier) r) k p ∷ []))
-    ds
-    (set (o .receipts) (r .receipt) (pending false))
 
 rule-stolen :
     (r : Request) (o : Own) (d : Due) (ds : List Due)

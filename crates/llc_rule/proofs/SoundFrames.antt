@@ -15,8 +15,8 @@ use Rattle.llc_rule.specs.Calls.{Frame}
 use Rattle.llc_rule.specs.Received.{Received, nsOf, nrOf}
 use Rattle.llc_rule.specs.Records.{Sent}
 use Rattle.llc_rule.specs.Messages.{Message, Due, mark}
-use Rattle.llc_rule.specs.Link.{Link, withQueues}
-use Rattle.llc_rule.specs.Step.{dueRoom, withDue, awaiting, fits, answeredBy, answered, dueNow}
+use Rattle.llc_rule.specs.Link.{Link, acknowledgedNow, dueNow, withReceipts}
+use Rattle.llc_rule.specs.Step.{dueRoom, withDue, awaiting, fits, answeredBy, answered}
 use Rattle.llc_rule.specs.Past.{Holders}
 use Rattle.llc_rule.specs.Sound.{acknowledgedWith, unacknowledgedWith, Sound}
 use Rattle.llc_rule.proofs.Lists.{by-test, both, all-map, none-counted, FoundBy, find-by}
@@ -30,7 +30,7 @@ sound-moved :
     → l .acknowledged ≡ f ++ (m ∷ b)
     → m .submitted ≡ true
     → Sound h l
-    → Sound h (withQueues l (m ∷ (f ++ b)) (l .unacknowledged) (l .due) (l .receipts) (l .rows))
+    → Sound h (acknowledgedNow l (m ∷ (f ++ b)))
 sound-moved h l f m b e sub s =
     record {
       limits =
@@ -70,7 +70,7 @@ sound-finished :
     (h : Holders) (l : Link) (t : Mark) (m : Message) (ms : List Message)
     → l .acknowledged ≡ m ∷ ms
     → Sound h l
-    → Sound h (withQueues l ms (l .unacknowledged) (l .due) (mark t (m .sent .receipt) (l .receipts)) (l .rows))
+    → Sound h (withReceipts (acknowledgedNow l ms) (mark t (m .sent .receipt) (l .receipts)))
 sound-finished h l t m ms e s =
     let alone = none-other m ms (l .unacknowledged) (rw e at (s .apart (m .sent .receipt))) in
     record {

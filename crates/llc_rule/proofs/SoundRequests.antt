@@ -15,7 +15,7 @@ use Rattle.llc_rule.specs.Calls.{Request}
 use Rattle.llc_rule.specs.Ranges.{requestInRange}
 use Rattle.llc_rule.specs.Records.{Sent}
 use Rattle.llc_rule.specs.Messages.{Message, waiting, Due, Place, free, pending, placeAt, isFree, carrierOf, sentOf}
-use Rattle.llc_rule.specs.Link.{Link, Row, withQueues, bitOf, withBit}
+use Rattle.llc_rule.specs.Link.{Link, Row, acknowledgedNow, unacknowledgedNow, dueNow, withReceipts, withRows, bitOf, withBit}
 use Rattle.llc_rule.specs.Step.{isDueFor, dueFor, rowFor, dataPdu, withAcknowledged, withUnacknowledged}
 use Rattle.llc_rule.specs.Past.{Holders, holding}
 use Rattle.llc_rule.specs.Sound.{All, Owned, IsPending, Expects, Waiting, acknowledgedWith, unacknowledgedWith, ofAddress, Sound}
@@ -115,11 +115,10 @@ sound-acknowledged :
     → length rs ≤ 256
     → Sound h l
     → Sound (holding (t .receipt) (some (t .ssi)) h)
-    (withQueues l
-    (l .acknowledged ++ (waiting t ns ∷ []))
-    (l .unacknowledged)
-    ds
-    (set (l .receipts) (t .receipt) (pending true))
+    (withRows
+    (withReceipts
+    (dueNow (acknowledgedNow l (l .acknowledged ++ (waiting t ns ∷ []))) ds)
+    (set (l .receipts) (t .receipt) (pending true)))
     rs)
 sound-acknowledged h l t ns ds rs b f room roomDue roomRows s =
     let inside : t .receipt < length (l .receipts) = omega (arith, s .limits .receipts) in
@@ -174,12 +173,9 @@ sound-unacknowledged :
     → length ds ≤ 64
     → Sound h l
     → Sound (holding (t .receipt) (some (t .ssi)) h)
-    (withQueues l
-    (l .acknowledged)
-    (l .unacknowledged ++ (t ∷ []))
-    ds
-    (set (l .receipts) (t .receipt) (pending false))
-    (l .rows))
+    (withReceipts
+    (dueNow (unacknowledgedNow l (l .unacknowledged ++ (t ∷ []))) ds)
+    (set (l .receipts) (t .receipt) (pending false)))
 sound-unacknowledged h l t ds b f room roomDue s =
     let inside : t .receipt < length (l .receipts) = omega (arith, s .limits .receipts) in
     record {

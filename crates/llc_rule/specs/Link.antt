@@ -55,7 +55,7 @@ startedWith carrier t251 =
       rows = [];
     }
 
--- The link at another time, and with other queues and receipts.
+-- The link at another time, and with other acknowledged or unacknowledged messages, acknowledgements due, receipts or rows.
 abbrev pub withTime : Link → TdmaTime → Link
 withTime l t =
     record {
@@ -70,22 +70,75 @@ withTime l t =
       rows = l .rows;
     }
 
-abbrev pub withQueues : Link → List Message → List Sent → List Due → List Place → List Row → Link
-withQueues l ms us ds ps rs =
+abbrev pub acknowledgedNow : Link → List Message → Link
+acknowledgedNow l ms =
     record {
       started = l .started;
       carrier = l .carrier;
       t251 = l .t251;
       time = l .time;
       acknowledged = ms;
+      unacknowledged = l .unacknowledged;
+      due = l .due;
+      receipts = l .receipts;
+      rows = l .rows;
+    }
+
+abbrev pub unacknowledgedNow : Link → List Sent → Link
+unacknowledgedNow l us =
+    record {
+      started = l .started;
+      carrier = l .carrier;
+      t251 = l .t251;
+      time = l .time;
+      acknowledged = l .acknowledged;
       unacknowledged = us;
+      due = l .due;
+      receipts = l .receipts;
+      rows = l .rows;
+    }
+
+abbrev pub dueNow : Link → List Due → Link
+dueNow l ds =
+    record {
+      started = l .started;
+      carrier = l .carrier;
+      t251 = l .t251;
+      time = l .time;
+      acknowledged = l .acknowledged;
+      unacknowledged = l .unacknowledged;
       due = ds;
-      receipts = ps;
-      rows = rs;
+      receipts = l .receipts;
+      rows = l .rows;
     }
 
 abbrev pub withReceipts : Link → List Place → Link
-withReceipts l ps = withQueues l (l .acknowledged) (l .unacknowledged) (l .due) ps (l .rows)
+withReceipts l ps =
+    record {
+      started = l .started;
+      carrier = l .carrier;
+      t251 = l .t251;
+      time = l .time;
+      acknowledged = l .acknowledged;
+      unacknowledged = l .unacknowledged;
+      due = l .due;
+      receipts = ps;
+      rows = l .rows;
+    }
+
+abbrev pub withRows : Link → List Row → Link
+withRows l rs =
+    record {
+      started = l .started;
+      carrier = l .carrier;
+      t251 = l .t251;
+      time = l .time;
+      acknowledged = l .acknowledged;
+      unacknowledged = l .unacknowledged;
+      due = l .due;
+      receipts = l .receipts;
+      rows = rs;
+    }
 
 -- The bit of an address: "first 0".
 unfoldable pub bitOf : ℕ → List Row → Bool

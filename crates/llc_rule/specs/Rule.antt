@@ -66,9 +66,9 @@ afterStart carrier t251 =
       receipts = noReceipts;
     }
 
--- "Tick start sets the time."
-abbrev pub afterTick : TdmaTime → Own → Own
-afterTick t o =
+-- What the rule keeps, with another time, bit, acknowledged or unacknowledged messages, acknowledgements due or receipts.
+abbrev pub keepingTime : Own → TdmaTime → Own
+keepingTime o t =
     record {
       started = o .started;
       carrier = o .carrier;
@@ -81,20 +81,79 @@ afterTick t o =
       receipts = o .receipts;
     }
 
--- What the rule keeps, with another bit, messages, acknowledgements due and receipts.
-abbrev pub keeping : Own → Bool → List Message → List Sent → List Due → List Place → Own
-keeping o b ms us ds ps =
+abbrev pub keepingBit : Own → Bool → Own
+keepingBit o b =
     record {
       started = o .started;
       carrier = o .carrier;
       t251 = o .t251;
       time = o .time;
       bit = b;
+      acknowledged = o .acknowledged;
+      unacknowledged = o .unacknowledged;
+      due = o .due;
+      receipts = o .receipts;
+    }
+
+abbrev pub keepingAcknowledged : Own → List Message → Own
+keepingAcknowledged o ms =
+    record {
+      started = o .started;
+      carrier = o .carrier;
+      t251 = o .t251;
+      time = o .time;
+      bit = o .bit;
       acknowledged = ms;
+      unacknowledged = o .unacknowledged;
+      due = o .due;
+      receipts = o .receipts;
+    }
+
+abbrev pub keepingUnacknowledged : Own → List Sent → Own
+keepingUnacknowledged o us =
+    record {
+      started = o .started;
+      carrier = o .carrier;
+      t251 = o .t251;
+      time = o .time;
+      bit = o .bit;
+      acknowledged = o .acknowledged;
       unacknowledged = us;
+      due = o .due;
+      receipts = o .receipts;
+    }
+
+abbrev pub keepingDue : Own → List Due → Own
+keepingDue o ds =
+    record {
+      started = o .started;
+      carrier = o .carrier;
+      t251 = o .t251;
+      time = o .time;
+      bit = o .bit;
+      acknowledged = o .acknowledged;
+      unacknowledged = o .unacknowledged;
       due = ds;
+      receipts = o .receipts;
+    }
+
+abbrev pub keepingReceipts : Own → List Place → Own
+keepingReceipts o ps =
+    record {
+      started = o .started;
+      carrier = o .carrier;
+      t251 = o .t251;
+      time = o .time;
+      bit = o .bit;
+      acknowledged = o .acknowledged;
+      unacknowledged = o .unacknowledged;
+      due = o .due;
       receipts = ps;
     }
+
+-- "Tick start sets the time."
+abbrev pub afterTick : TdmaTime → Own → Own
+afterTick t o = keepingTime o t
 
 -- "An acknowledgement due on that SSI and carrier", the oldest.
 unfoldable pub dueOn : ℕ → Own → Found Due
@@ -118,18 +177,17 @@ madeOf r ns false false nothing = acknowledgedly (BlData (wantsFcs r) ns)
 -- "A request takes its receipt as Pending and puts its message last."
 unfoldable pub requested : Request → Own → Found Due → Made → Own
 requested r o found (acknowledgedly p) =
-    keeping o
+    let m = waiting (sentOf r (carrierOf (o .carrier) r) 0 p) (o .bit) in
+    keepingBit
+    (keepingReceipts
+    (keepingDue (keepingAcknowledged o (o .acknowledged ++ (m ∷ []))) (others found (o .due)))
+    (set (o .receipts) (r .receipt) (pending true)))
     (not (o .bit))
-    (o .acknowledged ++ (waiting (sentOf r (carrierOf (o .carrier) r) 0 p) (o .bit) ∷ []))
-    (o .unacknowledged)
-    (others found (o .due))
-    (set (o .receipts) (r .receipt) (pending true))
 requested r o found (unacknowledgedly link p uses) =
-    keeping o
-    (o .bit)
-    (o .acknowledged)
-    (o .unacknowledged ++ (sentOf r (carrierOf (o .carrier) r) link p ∷ []))
-    (cond uses (others found (o .due)) (o .due))
+    keepingReceipts
+    (keepingDue
+    (keepingUnacknowledged o (o .unacknowledged ++ (sentOf r (carrierOf (o .carrier) r) link p ∷ [])))
+    (cond uses (others found (o .due)) (o .due)))
     (set (o .receipts) (r .receipt) (pending false))
 
 -- A data request, with the acknowledgement due there.
@@ -196,7 +254,9 @@ sentFirst o = submitted (resent o .state) (resent o .stays)
 unfoldable pub atTickEnd : Own → Done Own
 atTickEnd o =
     done
-    (keeping o (o .bit) (sentFirst o .stays) [] [] (sentFirst o .state))
+    (keepingReceipts
+    (keepingDue (keepingUnacknowledged (keepingAcknowledged o (sentFirst o .stays)) []) [])
+    (sentFirst o .state))
     (resent o .out ++ (sentFirst o .out ++ (map replyTo (o .due) ++ map unacknowledged (o .unacknowledged))))
 
 -- "N(S) makes an acknowledgement due, its slot two before now."
@@ -226,24 +286,25 @@ canFinish f none o = true
 canFinish f (some nr) o = oneTransmitted f nr (theOne o) o
 
 -- It is finished "as Acknowledged", or "it stays".
-abbrev pub finished : Frame → Bool → Found Message → List Due → Own → Own
-finished f nr nothing ds o = keeping o (o .bit) (o .acknowledged) (o .unacknowledged) ds (o .receipts)
-finished f nr (first m ms) ds o =
+abbrev pub finished : Frame → Bool → Found Message → Own → Own
+finished f nr nothing o = o
+finished f nr (first m ms) o =
     cond (finishes f nr m)
-    (keeping o (o .bit) ms (o .unacknowledged) ds (mark Marks.acknowledged (m .sent .receipt) (o .receipts)))
-    (keeping o (o .bit) (o .acknowledged) (o .unacknowledged) ds (o .receipts))
+    (keepingReceipts (keepingAcknowledged o ms) (mark Marks.acknowledged (m .sent .receipt) (o .receipts)))
+    o
 
--- What N(R) does, with the acknowledgements that are then due.
-abbrev pub heard : Frame → Option Bool → List Due → Own → Own
-heard f none ds o = keeping o (o .bit) (o .acknowledged) (o .unacknowledged) ds (o .receipts)
-heard f (some nr) ds o = finished f nr (theOne o) ds o
+-- What N(R) does.
+abbrev pub heard : Frame → Option Bool → Own → Own
+heard f none o = o
+heard f (some nr) o = finished f nr (theOne o) o
 
 -- A frame that passed questions 9 to 12: question 14, what it does and what goes up.
 unfoldable pub afterReceived : Frame → Outcome Received → Own → Outcome (Done Own)
 afterReceived f (refused n) o = refused n
 afterReceived f (accepted r) o =
     ask 14 (canFinish f (nrOf (r .header)) o)
-    (accepted (done (heard f (nrOf (r .header)) (madeDue f (nsOf (r .header)) o) o) (upward f (r .header) (r .sdu))))
+    (accepted
+    (done (heard f (nrOf (r .header)) (keepingDue o (madeDue f (nsOf (r .header)) o))) (upward f (r .header) (r .sdu))))
 
 unfoldable pub afterFrame : Frame → Own → Outcome (Done Own)
 afterFrame f o = afterReceived f (received (f .pdu)) o
@@ -258,10 +319,7 @@ stillWaits i o =
 unfoldable pub afterReport : ℕ → ℕ → Own → Outcome (Done Own)
 afterReport i how o =
     ask 15 (taken? (is Pending) (placeAt (o .receipts) i) && not (stillWaits i o))
-    (accepted
-    (done
-    (keeping o (o .bit) (o .acknowledged) (o .unacknowledged) (o .due) (mark (markOf how) i (o .receipts)))
-    []))
+    (accepted (done (keepingReceipts o (mark (markOf how) i (o .receipts))) []))
 
 -- "16. Release: is the receipt taken, its message no longer held, and final?" "A release frees it."
 unfoldable pub stillHeld : ℕ → Own → Bool
@@ -272,8 +330,7 @@ stillHeld i o =
 unfoldable pub afterRelease : ℕ → Own → Outcome (Done Own)
 afterRelease i o =
     ask 16 (taken? final (placeAt (o .receipts) i) && not (stillHeld i o))
-    (accepted
-    (done (keeping o (o .bit) (o .acknowledged) (o .unacknowledged) (o .due) (set (o .receipts) i free)) []))
+    (accepted (done (keepingReceipts o (set (o .receipts) i free)) []))
 
 -- A request, and a call by receipt.
 abbrev pub afterRequest : Service → Request → Own → Own

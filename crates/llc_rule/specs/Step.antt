@@ -20,7 +20,7 @@ use Rattle.llc_rule.specs.Records.{Record, acknowledged, unacknowledged,
 use Rattle.llc_rule.specs.Received.{Received, received, nsOf, nrOf, upward}
 use Rattle.llc_rule.specs.Messages.{Message, waiting, submittedAfter, doneAt, hasTime, overdue, Due, slotBefore, replyTo, Place, free, placeAt, isFree, pending, taken?, mark, markOf, reported, carrierOf, sentOf}
 use Rattle.llc_rule.specs.Done.{Done, done}
-use Rattle.llc_rule.specs.Link.{Link, Row, startedWith, withTime, withQueues, withReceipts, bitOf, withBit}
+use Rattle.llc_rule.specs.Link.{Link, Row, startedWith, withTime, acknowledgedNow, unacknowledgedNow, dueNow, withReceipts, withRows, bitOf, withBit}
 
 -- Requests ----------------------------------------------------------------------------------------------------------------
 
@@ -59,22 +59,19 @@ dataPdu r ns nothing = BlData (wantsFcs r) ns
 unfoldable pub withAcknowledged : Request → Link → Link
 withAcknowledged r l =
     let ns = bitOf (r .ssi) (l .rows) in
-    withQueues l
-    (l .acknowledged ++ (waiting (sentOf r (carrierOf (l .carrier) r) 0 (dataPdu r ns (dueFor r l))) ns ∷ []))
-    (l .unacknowledged)
-    (others (dueFor r l) (l .due))
-    (set (l .receipts) (r .receipt) (pending true))
+    let m = waiting (sentOf r (carrierOf (l .carrier) r) 0 (dataPdu r ns (dueFor r l))) ns in
+    withRows
+    (withReceipts
+    (dueNow (acknowledgedNow l (l .acknowledged ++ (m ∷ []))) (others (dueFor r l) (l .due)))
+    (set (l .receipts) (r .receipt) (pending true)))
     (withBit (r .ssi) (not ns) (l .rows))
 
 -- An unacknowledged message put last, with a link id and behind a header, and the due acknowledgements that are left.
 unfoldable pub withUnacknowledged : Request → ℕ → Pdu → List Due → Link → Link
 withUnacknowledged r link p ds l =
-    withQueues l
-    (l .acknowledged)
-    (l .unacknowledged ++ (sentOf r (carrierOf (l .carrier) r) link p ∷ []))
-    ds
+    withReceipts
+    (dueNow (unacknowledgedNow l (l .unacknowledged ++ (sentOf r (carrierOf (l .carrier) r) link p ∷ []))) ds)
     (set (l .receipts) (r .receipt) (pending false))
-    (l .rows)
 
 -- A data request that steals and finds an acknowledgement due is a BL-ACK, any other off the acknowledged path a BL-UDATA.
 unfoldable pub withStolen : Request → Link → Found Due → Link
@@ -138,16 +135,12 @@ unfoldable pub answeredBy : Bool → Found Message → Link → Link
 answeredBy nr nothing l = l
 answeredBy nr (first m ms) l =
     cond (fits nr m)
-    (withQueues l ms (l .unacknowledged) (l .due) (mark Marks.acknowledged (m .sent .receipt) (l .receipts)) (l .rows))
-    (withQueues l (m ∷ ms) (l .unacknowledged) (l .due) (l .receipts) (l .rows))
+    (withReceipts (acknowledgedNow l ms) (mark Marks.acknowledged (m .sent .receipt) (l .receipts)))
+    (acknowledgedNow l (m ∷ ms))
 
 abbrev pub answered : Frame → Option Bool → Link → Link
 answered f none l = l
 answered f (some nr) l = answeredBy nr (awaiting f l) l
-
--- The link with other acknowledgements due.
-abbrev pub dueNow : Link → List Due → Link
-dueNow l ds = withQueues l (l .acknowledged) (l .unacknowledged) ds (l .receipts) (l .rows)
 
 -- A frame that passed questions 9 to 12: 13, 14, and what it does and sends up.
 unfoldable pub onReceived : Frame → Outcome Received → Link → Outcome (Done Link)
@@ -259,7 +252,9 @@ firstSendings l =
 unfoldable pub onTickEnd : Link → Done Link
 onTickEnd l =
     done
-    (withQueues l (firstSendings l .stays) [] [] (firstSendings l .state .receipts) (l .rows))
+    (withReceipts
+    (dueNow (unacknowledgedNow (acknowledgedNow l (firstSendings l .stays)) []) [])
+    (firstSendings l .state .receipts))
     (retransmissions l .out ++ (firstSendings l .out ++ (map replyTo (l .due) ++ map unacknowledged (l .unacknowledged))))
 
 -- A call --------------------------------------------------------------------------------------------------------------------

@@ -5,7 +5,7 @@ use mathlib.Core.Bool.{Bool, true, false, cond, not, _&&_, _||_, Bool·beq}
 use mathlib.Core.List.{List, [], _∷_, map}
 use mathlib.Core.Option.{Option, none, some}
 use lib.Dec.{eqb, ltb}
-use lib.ListN.{set, length-map}
+use lib.ListN.{length-map}
 use Rattle.questions.specs.Outcome.{Outcome, accepted, refused, ask}
 use Rattle.tx_receipt.specs.States.{is, final}
 use Rattle.tx_receipt.specs.Marks as Marks
@@ -16,24 +16,21 @@ use Rattle.llc_rule.specs.Calls.{Action, report, release, Frame}
 use Rattle.llc_rule.specs.Records.{Sent}
 use Rattle.llc_rule.specs.Received.{Received, nsOf, nrOf, upward}
 use Rattle.llc_rule.specs.Messages as Rule
-use Rattle.llc_rule.specs.Messages.{Message, Due, Place, markOf}
+use Rattle.llc_rule.specs.Messages.{Message, markOf}
 use Rattle.llc_rule.specs.Done.{Done, done}
 use Rattle.llc_rule.specs.Link as Link
 use Rattle.llc_rule.specs.Step as Step
 use Rattle.llc_rule.proofs.Lists.{ap-cond}
-use Rattle.llc_state.specs.View.{sentIn, messageIn, dueIn, placeIn, linkIn}
+use Rattle.llc_state.specs.View.{sentIn, messageIn, dueIn, linkIn}
 use Rattle.llc_state.specs.declared.Entry.{Entry}
-use Rattle.llc_state.specs.declared.ScheduledOutAck.{ScheduledOutAck}
-use Rattle.llc_state.specs.declared.ReceiptPlace.{ReceiptPlace}
 use Rattle.llc_state.specs.declared.State.{State}
-use Rattle.llc_steps.specs.States.{messagesOf, udataOf, acksOf, rowsOf, relaid, Kept}
-use Rattle.llc_state.specs.Receipts.{mark}
-use Rattle.llc_state.proofs.Places.{mark-in, taken-in}
-use Rattle.llc_steps.specs.Calls.{ackRoom, scheduled, expected, fits, finishable, mayFinish, answeredBy, answered, onReceived, held, waits, withReceipts, onReport, onRelease, onReceipt}
-use Rattle.llc_state.specs.States.{noReceipt}
-use Rattle.llc_state.proofs.Maps.{map-append, map-set, mapFound, find-map, any-map}
+use Rattle.llc_steps.specs.States.{messagesOf, udataOf, acksOf, withMessages, withAcks, Kept}
+use Rattle.llc_state.specs.Receipts.{markReceipt}
+use Rattle.llc_state.proofs.Places.{taken-in, mark-receipt-in, free-receipt-in}
+use Rattle.llc_steps.specs.Calls.{ackRoom, scheduled, expected, fits, finishable, mayFinish, answeredBy, answered, onReceived, held, waits, onReport, onRelease, onReceipt}
+use Rattle.llc_state.proofs.Maps.{map-append, mapFound, find-map, any-map}
 use Rattle.llc_steps.specs.Holds.{keptIn, Counted}
-use Rattle.llc_steps.proofs.Relaid.{relaid-in}
+use Rattle.llc_steps.proofs.Setters.{messages-in, acks-in}
 use Rattle.llc_steps.proofs.TickEnd.{has-time}
 
 -- A question that is asked alike of a state and of the link that it holds, and then what they leave.
@@ -42,10 +39,6 @@ pub kept-ask :
 unfolding keptIn
 kept-ask n {b = true} o {p = p} e f = f refl ∙ ap (λ (t : Bool). ask n t p) e
 kept-ask n {b = false} o {p = p} e f = ap (λ (t : Bool). ask n t p) e
-
-empty-in : placeIn noReceipt ≡ Rule.free
-unfolding placeIn
-empty-in = refl
 
 -- Reports and releases.
 module _ (s : State) (store : List ℕ) where
@@ -63,39 +56,28 @@ module _ (s : State) (store : List ℕ) where
       (any-map (messageIn store) (λ (m : Message). eqb (m .sent .receipt) i && not (m .submitted)) (messagesOf s))
       (any-map (sentIn store) (λ (u : Sent). eqb (u .receipt) i) (udataOf s))
 
-  receipts-in : (ps : List ReceiptPlace) → linkIn (withReceipts s ps) store ≡ Link.withReceipts (linkIn s store) (map placeIn ps)
-  unfolding linkIn
-  receipts-in ps = relaid-in s store (messagesOf s) (udataOf s) (acksOf s) ps (rowsOf s)
-
   report-in : (i how : ℕ) → keptIn (onReport i how s store) ≡ Step.onReport i how (linkIn s store)
   unfolding onReport Step.onReport keptIn linkIn
   report-in i how =
-      let ps : List ReceiptPlace = s .receipts in
-      kept-ask 15 _ (ap₂ (λ (x y : Bool). x && not y) (taken-in (is Pending) ps i) (sym (waits-in i)))
-      (λ t.
-      ap (λ (l : Link.Link). accepted (done l []))
-      (receipts-in (mark (markOf how) i ps) ∙ ap (Link.withReceipts (linkIn s store)) (mark-in (markOf how) i ps)))
+      kept-ask 15 _ (ap₂ (λ (x y : Bool). x && not y) (taken-in (is Pending) (s .receipts) i) (sym (waits-in i)))
+      (λ t. ap (λ (l : Link.Link). accepted (done l [])) (mark-receipt-in s store i (markOf how)))
 
   release-in : (i : ℕ) → keptIn (onRelease i s store) ≡ Step.onRelease i (linkIn s store)
   unfolding onRelease Step.onRelease keptIn linkIn
   release-in i =
-      let ps : List ReceiptPlace = s .receipts in
-      kept-ask 16 _ (ap₂ (λ (x y : Bool). x && not y) (taken-in final ps i) (sym (held-in i)))
-      (λ t.
-      ap (λ (l : Link.Link). accepted (done l []))
-      (receipts-in (set ps i noReceipt)
-      ∙ ap (Link.withReceipts (linkIn s store)) (map-set placeIn ps i noReceipt ∙ ap (set (map placeIn ps) i) empty-in)))
+      kept-ask 16 _ (ap₂ (λ (x y : Bool). x && not y) (taken-in final (s .receipts) i) (sym (held-in i)))
+      (λ t. ap (λ (l : Link.Link). accepted (done l [])) (free-receipt-in s store i))
 
   pub by-receipt-in : (i : ℕ) (a : Action) → keptIn (onReceipt i a s store) ≡ Step.onReceipt i a (linkIn s store)
   by-receipt-in i (report how) = report-in i how
   by-receipt-in i release = release-in i
 
 -- Frames.
-module _ (f : Frame) (s : State) (store : List ℕ) (ok : Counted s) where
-  room-in : (x : Option Bool) → ackRoom x s ≡ Step.dueRoom x (linkIn s store)
+module _ (f : Frame) (s : State) (store : List ℕ) where
+  room-in : Counted s → (x : Option Bool) → ackRoom x s ≡ Step.dueRoom x (linkIn s store)
   unfolding linkIn
-  room-in none = refl
-  room-in (some ns) = ap (λ (n : ℕ). ltb n 64) (sym (length-map (acksOf s) dueIn ∙ ok .acks))
+  room-in ok none = refl
+  room-in ok (some ns) = ap (λ (n : ℕ). ltb n 64) (sym (length-map (acksOf s) dueIn ∙ ok .acks))
 
   scheduled-in : (x : Option Bool) → map dueIn (scheduled f x s) ≡ Step.withDue f x (linkIn s store)
   unfolding linkIn dueIn
@@ -123,50 +105,42 @@ module _ (f : Frame) (s : State) (store : List ℕ) (ok : Counted s) where
   may-finish-in (some nr) =
       finishable-in nr (expected f s) ∙ ap (λ (x : Found Message). Step.finishable nr x (linkIn s store)) (sym expected-in)
 
-  -- The link with other messages, acknowledgements due and receipts.
-  with-in :
-      (ms : List Entry) (ds : List ScheduledOutAck) (ps : List ReceiptPlace)
-      → linkIn (relaid s ms (udataOf s) ds ps (rowsOf s)) store
-      ≡ Link.withQueues (linkIn s store) (map (messageIn store) ms) (linkIn s store .unacknowledged) (map dueIn ds) (map placeIn ps) (linkIn s store .rows)
-  unfolding linkIn
-  with-in ms ds ps = relaid-in s store ms (udataOf s) ds ps (rowsOf s)
+  due-in :
+      (x : Option Bool)
+      → linkIn (withAcks s (scheduled f x s)) store ≡ Link.dueNow (linkIn s store) (Step.withDue f x (linkIn s store))
+  due-in x = acks-in s store (scheduled f x s) ∙ ap (Link.dueNow (linkIn s store)) (scheduled-in x)
 
   answered-by-in :
-      (nr : Bool) (x : Found Entry) (ds : List ScheduledOutAck)
-      → linkIn (answeredBy nr x ds s) store
-      ≡ Step.answeredBy nr (mapFound (messageIn store) x) (Step.dueNow (linkIn s store) (map dueIn ds))
-  unfolding answeredBy Step.answeredBy linkIn messageIn sentIn
-  answered-by-in nr nothing ds = with-in (messagesOf s) ds (s .receipts)
-  answered-by-in nr (first e es) ds =
-      let gone : State = relaid s es (udataOf s) ds (mark Marks.acknowledged (e .sent .receipt) (s .receipts)) (rowsOf s) in
-      let moved : State = relaid s (e ∷ es) (udataOf s) ds (s .receipts) (rowsOf s) in
-      ap-cond (λ (t : State). linkIn t store) (fits nr e) gone moved
+      (nr : Bool) (x : Found Entry)
+      → linkIn (answeredBy nr x s) store ≡ Step.answeredBy nr (mapFound (messageIn store) x) (linkIn s store)
+  unfolding answeredBy Step.answeredBy messageIn sentIn
+  answered-by-in nr nothing = refl
+  answered-by-in nr (first e es) =
+      let gone : State = markReceipt (withMessages s es) (e .sent .receipt) Marks.acknowledged in
+      ap-cond (λ (t : State). linkIn t store) (fits nr e) gone (withMessages s (e ∷ es))
       ∙ (λ i.
       cond (fits-in nr e i)
-      ((with-in es ds (mark Marks.acknowledged (e .sent .receipt) (s .receipts))
-      ∙ ap
-      (λ (ps : List Place).
-      Link.withQueues (linkIn s store) (map (messageIn store) es) (linkIn s store .unacknowledged) (map dueIn ds) ps (linkIn s store .rows))
-      (mark-in Marks.acknowledged (e .sent .receipt) (s .receipts))) i)
-      (with-in (e ∷ es) ds (s .receipts) i))
+      ((mark-receipt-in (withMessages s es) store (e .sent .receipt) Marks.acknowledged
+      ∙ ap (λ (l : Link.Link). Link.withReceipts l (Rule.mark Marks.acknowledged (e .sent .receipt) (l .receipts))) (messages-in s store es)) i)
+      (messages-in s store (e ∷ es) i))
 
-  answered-in :
-      (x : Option Bool) (ds : List ScheduledOutAck)
-      → linkIn (answered f x ds s) store ≡ Step.answered f x (Step.dueNow (linkIn s store) (map dueIn ds))
-  unfolding linkIn Step.awaiting
-  answered-in none ds = with-in (messagesOf s) ds (s .receipts)
-  answered-in (some nr) ds =
-      answered-by-in nr (expected f s) ds
-      ∙ ap (λ (x : Found Message). Step.answeredBy nr x (Step.dueNow (linkIn s store) (map dueIn ds))) (sym expected-in)
+  answered-in : (x : Option Bool) → linkIn (answered f x s) store ≡ Step.answered f x (linkIn s store)
+  answered-in none = refl
+  answered-in (some nr) =
+      answered-by-in nr (expected f s) ∙ ap (λ (x : Found Message). Step.answeredBy nr x (linkIn s store)) (sym expected-in)
 
-  pub received-in : (x : Outcome Received) → keptIn (onReceived f x s store) ≡ Step.onReceived f x (linkIn s store)
-  unfolding onReceived Step.onReceived keptIn
-  received-in (refused n) = refl
-  received-in (accepted r) =
-      kept-ask 13 _ (room-in (nsOf (r .header)))
-      (λ room.
-      kept-ask 14 _ (may-finish-in (nrOf (r .header)))
-      (λ may.
-      ap (λ (l : Link.Link). accepted (done l (upward f (r .header) (r .sdu))))
-      (answered-in (nrOf (r .header)) (scheduled f (nsOf (r .header)) s)
-      ∙ ap (λ (ds : List Due). Step.answered f (nrOf (r .header)) (Step.dueNow (linkIn s store) ds)) (scheduled-in (nsOf (r .header))))))
+pub received-in :
+    (f : Frame) (s : State) (store : List ℕ)
+    → Counted s
+    → (x : Outcome Received) → keptIn (onReceived f x s store) ≡ Step.onReceived f x (linkIn s store)
+unfolding onReceived Step.onReceived keptIn
+received-in f s store ok (refused n) = refl
+received-in f s store ok (accepted r) =
+    let ns : Option Bool = nsOf (r .header) in
+    let nr : Option Bool = nrOf (r .header) in
+    kept-ask 13 _ (room-in f s store ok ns)
+    (λ room.
+    kept-ask 14 _ (may-finish-in f s store nr)
+    (λ may.
+    ap (λ (l : Link.Link). accepted (done l (upward f (r .header) (r .sdu))))
+    (answered-in f (withAcks s (scheduled f ns s)) store nr ∙ ap (Step.answered f nr) (due-in f s store ns))))

@@ -1,4 +1,4 @@
-pub mod Relaid
+pub mod Setters
 pub mod TickEnd
 pub mod Calls
 pub mod NotStarted
@@ -8,7 +8,7 @@ pub mod Steps
 pub mod Ready
 pub mod Laid
 pub mod Updates
-pub mod SaneRelaid
+pub mod SaneSetters
 pub mod SaneTickEnd
 pub mod SaneRequests
 pub mod SaneCalls

@@ -6,11 +6,10 @@ use mathlib.Core.Bool.{Bool, true, false, cond, not, _&&_, _||_}
 use mathlib.Core.List.{List, [], _∷_, _++_, map}
 use borrow.Author.Tests.{ltb-true}
 use lib.Dec.{eqb, ltb}
-use lib.ListN.{length, set, take, replicate, length-map, length-append}
+use lib.ListN.{length, set, replicate, length-map}
 use lib.Seq.{take-append-seam}
 use Rattle.bits.specs.Bits.{splice}
 use Rattle.questions.specs.Outcome.{accepted}
-use Rattle.tx_receipt.specs.declared.TxReceipt.{TxReceipt}
 use Rattle.llc_pdus.specs.Writes.{longest, frameBits}
 use Rattle.llc_pdus.specs.declared.Pdu.{Pdu}
 use Rattle.llc_pdus.proofs.Framing.{frame-short}
@@ -35,15 +34,15 @@ use Rattle.llc_state.specs.declared.ScheduledOutAck.{ScheduledOutAck}
 use Rattle.llc_state.specs.declared.ReceiptPlace.{ReceiptPlace}
 use Rattle.llc_state.specs.declared.LinkSendSeq.{LinkSendSeq}
 use Rattle.llc_state.specs.declared.State.{State}
-use Rattle.llc_steps.specs.States.{messagesOf, udataOf, acksOf, rowsOf}
+use Rattle.llc_steps.specs.States.{messagesOf, udataOf, acksOf, rowsOf, withMessages, withUdata, withAcks}
 use Rattle.llc_steps.specs.Places.{freePlace}
 use Rattle.llc_steps.specs.Calls.{entryOf, carrierFor, ackFor, seqOf, withSeq, dataPdu, withAcknowledged, withUnacknowledged, withStolen, receiptFree, rowFor, onData, onUnitdata, onRequest}
-use Rattle.llc_state.specs.Receipts.{pendingPlace, placeOf}
-use Rattle.llc_state.proofs.Maps.{map-append, map-set, mapFound, find-map, any-map, others-map}
+use Rattle.llc_state.specs.Receipts.{takeReceipt, placeOf}
+use Rattle.llc_state.proofs.Maps.{map-append, mapFound, find-map, any-map, others-map}
 use Rattle.llc_steps.specs.Holds.{keptIn, Stored, Ready}
-use Rattle.llc_steps.proofs.Relaid.{relaid-in}
+use Rattle.llc_steps.proofs.Setters.{messages-in, udata-in, acks-in, rows-in}
 use Rattle.llc_steps.proofs.Places.{free-place, part-there, frame-elsewhere}
-use Rattle.llc_state.proofs.Places.{place-in}
+use Rattle.llc_state.proofs.Places.{place-in, take-receipt-in}
 use Rattle.llc_steps.proofs.Calls.{kept-ask}
 
 -- Rows.
@@ -63,10 +62,6 @@ with-seq-in a b (r ∷ rs) =
 free-by : (p : ReceiptPlace) → not (p .taken) ≡ Rule.isFree (placeIn p)
 unfolding placeIn
 free-by p = by-test (p .taken) (λ t. rw t) (λ f. rw f)
-
-pending-in : (b : Bool) → placeIn (pendingPlace b) ≡ Rule.pending b
-unfolding placeIn
-pending-in b = refl
 
 -- What stays as it was.
 map-same : {A B : Type 0} (g k : A → B) (l : List A) → All (λ (x : A). g x ≡ k x) l → map g l ≡ map k l
@@ -117,6 +112,14 @@ module _ (r : Request) (s : State) (store : List ℕ) (short : length (r .block)
       (all-map (λ (e : Entry). frameIn after e ≡ frameIn store e) (λ (e : Entry). sentIn after e ≡ sentIn store e) (udataOf s)
       (sent-same after) (ok .udata))
 
+  -- The link is the same in the store with the new frame.
+  link-same : (pdu after : List ℕ) → Placed s store pdu after → linkIn s after ≡ linkIn s store
+  unfolding linkIn
+  link-same pdu after ok =
+      ap₂ (λ (ms : List Message) (us : List Sent). Link.unacknowledgedNow (Link.acknowledgedNow (linkIn s store) ms) us)
+      (messages-same pdu after ok)
+      (udata-same pdu after ok)
+
   new-message :
       (c k : ℕ) (p : Pdu) (ns : Bool) (after : List ℕ)
       → Placed s store (frameBits p (r .sdu)) after
@@ -141,25 +144,25 @@ module _ (r : Request) (s : State) (store : List ℕ) (short : length (r .block)
       in
       let messages =
       map-append (messageIn after) (messagesOf s) (e ∷ [])
-      ∙ ap₂ (λ (x : List Message) (m : Message). x ++ (m ∷ [])) (messages-same pdu after ok) (new-message c 0 p ns after ok)
+      ∙ ap₂ (λ (x : List Message) (m : Message). x ++ (m ∷ [])) (messages-same pdu after ok)
+      (new-message c 0 p ns after ok ∙ ap₂ (λ (q : Pdu) (b : Bool). Rule.waiting (sentOf r c 0 q) b) pdus bit)
       in
       let dues =
       sym (others-map dueIn (ackFor r s) (acksOf s)) ∙ ap (λ (x : Found Due). others x (map dueIn (acksOf s))) (sym ack-for-in)
       in
-      let places =
-      map-set placeIn (s .receipts) (r .receipt) (pendingPlace true) ∙ ap (set (map placeIn (s .receipts)) (r .receipt)) (pending-in true)
+      let rows =
+      with-seq-in (r .ssi) (not ns) (rowsOf s) ∙ ap (λ (b : Bool). Link.withBit (r .ssi) (not b) (map rowIn (rowsOf s))) bit
       in
-      let rows = with-seq-in (r .ssi) (not ns) (rowsOf s) in
-      relaid-in s after (messagesOf s ++ (e ∷ [])) (udataOf s) (others (ackFor r s) (acksOf s)) (set (s .receipts) (r .receipt) (pendingPlace true)) (withSeq (r .ssi) (not ns) (rowsOf s))
-      ∙ (λ i.
-      Link.withQueues (linkIn s store) (messages i) (udata-same pdu after ok i) (dues i) (places i) (rows i))
-      ∙ (λ i.
-      Link.withQueues (linkIn s store)
-      (map (messageIn store) (messagesOf s) ++ (Rule.waiting (sentOf r c 0 (pdus i)) (bit i) ∷ []))
-      (map (sentIn store) (udataOf s))
-      (others (Step.dueFor r (linkIn s store)) (map dueIn (acksOf s)))
-      (set (map placeIn (s .receipts)) (r .receipt) (Rule.pending true))
-      (Link.withBit (r .ssi) (not (bit i)) (map rowIn (rowsOf s))))
+      let s₁ : State = withMessages s (messagesOf s ++ (e ∷ [])) in
+      let s₂ : State = withAcks s₁ (others (ackFor r s) (acksOf s)) in
+      let s₃ : State = takeReceipt s₂ (r .receipt) true in
+      rows-in s₃ after (withSeq (r .ssi) (not ns) (rowsOf s))
+      ∙ ap₂ Link.withRows
+      (take-receipt-in s₂ after (r .receipt) true
+      ∙ ap (λ (l : Link.Link). Link.withReceipts l (set (l .receipts) (r .receipt) (Rule.pending true)))
+      (acks-in s₁ after (others (ackFor r s) (acksOf s))
+      ∙ ap₂ Link.dueNow (messages-in s after (messagesOf s ++ (e ∷ [])) ∙ ap₂ Link.acknowledgedNow (link-same pdu after ok) messages) dues))
+      rows
 
   with-unacknowledged-in :
       (k : ℕ) (p : Pdu) (ds : List ScheduledOutAck)
@@ -176,13 +179,13 @@ module _ (r : Request) (s : State) (store : List ℕ) (short : length (r .block)
       map-append (sentIn after) (udataOf s) (e ∷ [])
       ∙ ap₂ (λ (x : List Sent) (m : Sent). x ++ (m ∷ [])) (udata-same pdu after ok) (new-sent c k p false after ok)
       in
-      let places =
-      map-set placeIn (s .receipts) (r .receipt) (pendingPlace false)
-      ∙ ap (set (map placeIn (s .receipts)) (r .receipt)) (pending-in false)
-      in
-      relaid-in s after (messagesOf s) (udataOf s ++ (e ∷ [])) ds (set (s .receipts) (r .receipt) (pendingPlace false)) (rowsOf s)
-      ∙ (λ i.
-      Link.withQueues (linkIn s store) (messages-same pdu after ok i) (sents i) (map dueIn ds) (places i) (map rowIn (rowsOf s)))
+      let s₁ : State = withUdata s (udataOf s ++ (e ∷ [])) in
+      let s₂ : State = withAcks s₁ ds in
+      take-receipt-in s₂ after (r .receipt) false
+      ∙ ap (λ (l : Link.Link). Link.withReceipts l (set (l .receipts) (r .receipt) (Rule.pending false)))
+      (acks-in s₁ after ds
+      ∙ ap (λ (l : Link.Link). Link.dueNow l (map dueIn ds))
+      (udata-in s after (udataOf s ++ (e ∷ [])) ∙ ap₂ Link.unacknowledgedNow (link-same pdu after ok) sents))
 
 all-both : {A : Type 0} (P Q R : A → Type 0) (l : List A) → ((x : A) → P x → Q x → R x) → All P l → All Q l → All R l
 all-both P Q R [] f p q = tt

@@ -3,7 +3,7 @@ use Prim.Native.Nat.{ℕ, _≤_, _<_}
 use native.Mathlib.Omega.{arith}
 use mathlib.Core.Path.{_≡_}
 use mathlib.Core.Bool.{Bool, true, not, _&&_}
-use mathlib.Core.List.{List, _∷_}
+use mathlib.Core.List.{List}
 use mathlib.Core.Option.{Option, none, some}
 use borrow.Author.Tests.{ltb-true, lt-ltb, le-leb}
 use lib.Dec.{leb}
@@ -28,13 +28,11 @@ use Rattle.llc_rule.proofs.Lists.{both, either, FoundBy, find-by}
 use Rattle.llc_state.specs.Ranges.{ackInRange, messageInRange}
 use Rattle.llc_state.specs.Receipts.{receiptOf, placeOf}
 use Rattle.llc_state.specs.declared.Entry.{Entry}
-use Rattle.llc_state.specs.declared.ScheduledOutAck.{ScheduledOutAck}
-use Rattle.llc_state.specs.declared.ReceiptPlace.{ReceiptPlace}
 use Rattle.llc_state.specs.declared.State.{State}
-use Rattle.llc_steps.specs.States.{messagesOf, udataOf, acksOf, rowsOf, relaid}
+use Rattle.llc_steps.specs.States.{messagesOf, acksOf, withAcks}
 use Rattle.llc_steps.specs.Calls.{ackRoom, scheduled, expected, fits, mayFinish, answeredBy, answered, onReceived, held, waits, onReport, onRelease, onReceipt}
 use Rattle.llc_steps.specs.Sane.{Sane, SaneAfter}
-use Rattle.llc_steps.proofs.SaneRelaid.{Used, one-more, found-first, behind-first, sane-ready, Full, places-full, marked-full, freed-full, messages-used, udata-used, acks-used, rows-used, relaid-sane, receipts-sane}
+use Rattle.llc_steps.proofs.SaneSetters.{Used, one-more, found-first, behind-first, sane-ready, places-full, marked-full, freed-full, messages-used, acks-used, messages-sane, acks-sane, places-sane}
 
 -- Frames ------------------------------------------------------------------------------------------------------------------
 
@@ -43,6 +41,23 @@ slot-in-range : (time : TdmaTime) → (1 ≤ slotBefore time) × (slotBefore tim
 unfolding slotBefore
 slot-in-range time =
     let r = Time.in-range (plus time (negsuc 1)) (plus-valid time (negsuc 1)) in (r .t-low, r .t-high)
+
+-- The messages less the one that was acknowledged, or with it moved to the front.
+module _ (s : State) (store : List ℕ) (ok : Sane s store) where
+  answered-by-sane : (nr : Bool) (p : Entry → Bool) (x : Found Entry) → FoundBy p (messagesOf s) x → Sane (answeredBy nr x s) store
+  unfolding answeredBy
+  answered-by-sane nr p nothing by = ok
+  answered-by-sane nr p (first e es) by =
+      let moved = found-first messageInRange 64 p (messagesOf s) e es by (messages-used s store ok) in
+      either (λ (t : State). Sane t store) (fits nr e)
+      (places-sane (messages-sane ok (behind-first messageInRange 64 e es moved))
+      (marked-full Marks.acknowledged (e .sent .receipt) (s .receipts) (places-full s store ok)))
+      (messages-sane ok moved)
+
+  answered-sane : (f : Frame) (x : Option Bool) → Sane (answered f x s) store
+  unfolding expected
+  answered-sane f none = ok
+  answered-sane f (some nr) = answered-by-sane nr _ (expected f s) (find-by _ (messagesOf s))
 
 module _ (f : Frame) (s : State) (store : List ℕ) (ok : Sane s store) (ssi : f .ssi < 16777216) (h : frameInRange f ≡ true) where
   -- The new acknowledgement due is in range, and there is room for it.
@@ -64,34 +79,6 @@ module _ (f : Frame) (s : State) (store : List ℕ) (ok : Sane s store) (ssi : f
       one-more ackInRange 64 (acksOf s) _
       (omega (arith, ltb-true (s .«n_acks») 64 room, sane-ready s store ok .counted .acks)) (new-in-range ns) (acks-used s store ok)
 
-  with-sane :
-      (ms : List Entry) (ds : List ScheduledOutAck) (ps : List ReceiptPlace)
-      → Used messageInRange 64 ms
-      → Used ackInRange 64 ds
-      → Full ps
-      → Sane (relaid s ms (udataOf s) ds ps (rowsOf s)) store
-  with-sane ms ds ps m d places =
-      relaid-sane s store ok ms (udataOf s) ds ps (rowsOf s) store m (udata-used s store ok) d places (rows-used s store ok) (ok .long)
-
-  -- The messages less the one that was acknowledged, or with it moved to the front.
-  answered-by-sane :
-      (nr : Bool) (p : Entry → Bool) (x : Found Entry) (ds : List ScheduledOutAck)
-      → FoundBy p (messagesOf s) x
-      → Used ackInRange 64 ds
-      → Sane (answeredBy nr x ds s) store
-  unfolding answeredBy
-  answered-by-sane nr p nothing ds by d = with-sane (messagesOf s) ds (s .receipts) (messages-used s store ok) d (places-full s store ok)
-  answered-by-sane nr p (first e es) ds by d =
-      let moved = found-first messageInRange 64 p (messagesOf s) e es by (messages-used s store ok) in
-      either (λ (t : State). Sane t store) (fits nr e)
-      (with-sane es ds _ (behind-first messageInRange 64 e es moved) d (marked-full Marks.acknowledged (e .sent .receipt) (s .receipts) (places-full s store ok)))
-      (with-sane (e ∷ es) ds (s .receipts) moved d (places-full s store ok))
-
-  answered-sane : (x : Option Bool) (ds : List ScheduledOutAck) → Used ackInRange 64 ds → Sane (answered f x ds s) store
-  unfolding expected
-  answered-sane none ds d = with-sane (messagesOf s) ds (s .receipts) (messages-used s store ok) d (places-full s store ok)
-  answered-sane (some nr) ds d = answered-by-sane nr _ (expected f s) ds (find-by _ (messagesOf s)) d
-
   pub received-sane : (x : Outcome Received) → SaneAfter (onReceived f x s store)
   unfolding onReceived
   received-sane (refused n) = tt
@@ -99,7 +86,9 @@ module _ (f : Frame) (s : State) (store : List ℕ) (ok : Sane s store) (ssi : f
       by-question SaneAfter 13 (ackRoom (nsOf (r .header)) s) tt
       (λ room.
       by-question SaneAfter 14 (mayFinish f (nrOf (r .header)) s) tt
-      (λ may. answered-sane (nrOf (r .header)) (scheduled f (nsOf (r .header)) s) (scheduled-used (nsOf (r .header)) room)))
+      (λ may.
+      answered-sane (withAcks s (scheduled f (nsOf (r .header)) s)) store (acks-sane ok (scheduled-used (nsOf (r .header)) room)) f
+      (nrOf (r .header))))
 
 -- Reports and releases ----------------------------------------------------------------------------------------------------
 
@@ -108,13 +97,13 @@ module _ (s : State) (store : List ℕ) (ok : Sane s store) where
   unfolding onReport
   report-sane i how =
       by-question SaneAfter 15 (placeOf (s .receipts) i .taken && is Pending (receiptOf (placeOf (s .receipts) i)) && not (waits i s)) tt
-      (λ t. receipts-sane s store ok _ (marked-full (markOf how) i (s .receipts) (places-full s store ok)))
+      (λ t. places-sane ok (marked-full (markOf how) i (s .receipts) (places-full s store ok)))
 
   release-sane : (i : ℕ) → SaneAfter (onRelease i s store)
   unfolding onRelease
   release-sane i =
       by-question SaneAfter 16 (placeOf (s .receipts) i .taken && final (receiptOf (placeOf (s .receipts) i)) && not (held i s)) tt
-      (λ t. receipts-sane s store ok _ (freed-full i (s .receipts) (places-full s store ok)))
+      (λ t. places-sane ok (freed-full i (s .receipts) (places-full s store ok)))
 
   pub receipt-sane : (i : ℕ) (a : Action) → SaneAfter (onReceipt i a s store)
   receipt-sane i (report how) = report-sane i how

@@ -35,7 +35,7 @@ use Rattle.llc_steps.specs.Places.{freePlace}
 use Rattle.llc_steps.specs.Calls.{entryOf, carrierFor, ackFor, seqOf, withSeq, dataPdu, withAcknowledged, withUnacknowledged, withStolen, receiptFree, rowFor, onData, onUnitdata, onRequest}
 use Rattle.llc_steps.specs.Sane.{Sane, SaneAfter}
 use Rattle.llc_steps.proofs.Places.{free-place}
-use Rattle.llc_steps.proofs.SaneRelaid.{places-full, pending-full, Used, one-more, others-used, sane-ready, messages-used, udata-used, acks-used, rows-used, relaid-sane}
+use Rattle.llc_steps.proofs.SaneSetters.{places-full, pending-full, Used, one-more, others-used, sane-ready, messages-used, udata-used, acks-used, rows-used, store-sane, messages-sane, udata-sane, acks-sane, places-sane, rows-sane}
 
 -- Rows: one is set, or put last where an SSI has none.
 with-seq-in-range :
@@ -148,15 +148,16 @@ module _ (r : Request) (s : State) (store : List ℕ) (ok : Sane s store) (ssi :
       let ns : Bool = seqOf (r .ssi) (rowsOf s) in
       let p : Pdu = dataPdu r ns (ackFor r s) in
       let inside = place-inside (omega (arith, less, q .fewToo)) in
-      relaid-sane s store ok _ _ _ _ _ _
-      (one-more messageInRange 64 (messagesOf s) _ (omega (arith, less, q .counted .messages))
+      let messages =
+      one-more messageInRange 64 (messagesOf s) _ (omega (arith, less, q .counted .messages))
       (message-in-range (carrierFor r s) (freePlace s) ns p inside (data-header ns (ackFor r s)))
-      (messages-used s store ok))
-      (udata-used s store ok)
-      acks-but
-      (pending-full true (r .receipt) (s .receipts) (places-full s store ok))
+      (messages-used s store ok)
+      in
+      rows-sane
+      (places-sane
+      (acks-sane (messages-sane (store-sane ok (store-long p inside ∙ ok .long)) messages) acks-but)
+      (pending-full true (r .receipt) (s .receipts) (places-full s store ok)))
       (rows-then (not ns) row)
-      (store-long p inside ∙ ok .long)
 
   unacknowledged-sane :
       (k : ℕ) (p : Pdu) (ds : List ScheduledOutAck)
@@ -170,15 +171,14 @@ module _ (r : Request) (s : State) (store : List ℕ) (ok : Sane s store) (ssi :
       let q = sane-ready s store ok in
       let less : s .«n_udata» < 32 = ltb-true (s .«n_udata») 32 room in
       let inside = place-inside (omega (arith, less, q .few)) in
-      relaid-sane s store ok _ _ _ _ _ _
-      (messages-used s store ok)
-      (one-more udataInRange 32 (udataOf s) _ (omega (arith, less, q .counted .udata))
+      let messages =
+      one-more udataInRange 32 (udataOf s) _ (omega (arith, less, q .counted .udata))
       (udata-in-range (carrierFor r s) k (freePlace s) p inside low high)
-      (udata-used s store ok))
-      d
+      (udata-used s store ok)
+      in
+      places-sane
+      (acks-sane (udata-sane (store-sane ok (store-long p inside ∙ ok .long)) messages) d)
       (pending-full false (r .receipt) (s .receipts) (places-full s store ok))
-      (rows-used s store ok)
-      (store-long p inside ∙ ok .long)
 
   stolen-sane :
       (f : Found ScheduledOutAck)

@@ -21,10 +21,10 @@ use Rattle.llc_state.specs.declared.Entry.{Entry}
 use Rattle.llc_state.specs.declared.ReceiptPlace.{ReceiptPlace}
 use Rattle.llc_state.specs.declared.State.{State}
 use Rattle.llc_state.proofs.InRange.{progress-tells, submitted-fits, done-fits, message-tells, come-fits, range-tells}
-use Rattle.llc_steps.specs.States.{messagesOf, rowsOf}
+use Rattle.llc_steps.specs.States.{messagesOf}
 use Rattle.llc_steps.specs.Sane.{Sane}
 use Rattle.llc_steps.specs.TickEnd.{submitted, timed, aged, retransmission, Sending, firstSending, retransmissions, firstSendings, ticked}
-use Rattle.llc_steps.proofs.SaneRelaid.{Full, places-full, Used, none-used, marked-full, messages-used, rows-used, relaid-sane}
+use Rattle.llc_steps.proofs.SaneSetters.{Full, places-full, Used, none-used, marked-full, messages-used, messages-sane, udata-sane, acks-sane, places-sane}
 
 -- A visit after which at most k stay, each of which passes a test, and the state is as it has to be.
 record Visited {S A R : Type 0} (p : A → Bool) (Q : S → Type 0) (k : ℕ) (v : Visit S A R) : Type 0 where
@@ -148,10 +148,7 @@ module _ (s : State) (store : List ℕ) (ok : Sane s store) (started : s .starte
   ticked-sane =
       let again = retransmissions-visited in
       let firsts = first-sendings-visited in
-      relaid-sane s store ok (firstSendings s .stays) [] [] (firstSendings s .state .receipts) (rowsOf s) store
-      (record { few = omega (arith, messages-used s store ok .few, again .stays .few, firsts .stays .few); each = firsts .stays .each })
-      (none-used _ 32)
-      (none-used _ 64)
-      (firsts .state)
-      (rows-used s store ok)
-      (ok .long)
+      let stays : Used messageInRange 64 (firstSendings s .stays) =
+      record { few = omega (arith, messages-used s store ok .few, again .stays .few, firsts .stays .few); each = firsts .stays .each }
+      in
+      places-sane (acks-sane (udata-sane (messages-sane ok stays) (none-used _ 32)) (none-used _ 64)) (firsts .state)

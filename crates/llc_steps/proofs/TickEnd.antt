@@ -16,15 +16,15 @@ use Rattle.llc_rule.specs.Link as Link
 use Rattle.llc_rule.specs.Step as Step
 use Rattle.llc_rule.proofs.Lists.{ap-cond}
 use Rattle.llc_state.specs.Progress.{doneAt, withProgress}
-use Rattle.llc_state.specs.View.{frameIn, sentIn, messageIn, dueIn, placeIn, rowIn, linkIn}
+use Rattle.llc_state.specs.View.{frameIn, sentIn, messageIn, dueIn, placeIn, linkIn}
 use Rattle.llc_state.specs.declared.Entry.{Entry}
 use Rattle.llc_state.specs.declared.ReceiptPlace.{ReceiptPlace}
 use Rattle.llc_state.specs.declared.State.{State}
-use Rattle.llc_steps.specs.States.{messagesOf, udataOf, acksOf, rowsOf}
+use Rattle.llc_steps.specs.States.{messagesOf, udataOf, acksOf, withMessages, withUdata, withAcks}
 use Rattle.llc_state.specs.Receipts.{receiptOf, placeOf, mark}
 use Rattle.llc_state.proofs.Places.{mark-in, taken-in}
 use Rattle.llc_state.proofs.Maps.{map-append, map-map}
-use Rattle.llc_steps.proofs.Relaid.{relaid-in}
+use Rattle.llc_steps.proofs.Setters.{messages-in, udata-in, acks-in, places-in}
 use Rattle.llc_steps.specs.TickEnd.{submitted, timed, stay, resend, leave, aged, retransmission, Sending, firstSending, retransmissions, firstSendings, ticked, tickRecords}
 
 -- A walk seen through views of its state, its elements and what it puts out.
@@ -171,17 +171,21 @@ module _ (store : List ℕ) where
 
   -- The whole tick end.
   pub ticked-in : (s : State) → linkIn (ticked s) store ≡ Step.onTickEnd (linkIn s store) .state
-  unfolding ticked Step.onTickEnd linkIn
+  unfolding ticked Step.onTickEnd
   ticked-in s =
       let v = first-sendings-in s in
-      relaid-in s store (firstSendings s .stays) [] [] (firstSendings s .state .receipts) (rowsOf s)
-      ∙ (λ i.
-      Link.withQueues (linkIn s store)
-      (sym (ap (λ (x : Visit Step.Sending Message Record). x .stays) v) i)
-      []
-      []
-      (sym (ap (λ (x : Visit Step.Sending Message Record). x .state .receipts) v) i)
-      (map rowIn (rowsOf s)))
+      let s₁ : State = withMessages s (firstSendings s .stays) in
+      let s₂ : State = withUdata s₁ [] in
+      let s₃ : State = withAcks s₂ [] in
+      places-in s₃ store (firstSendings s .state .receipts)
+      ∙ ap₂ Link.withReceipts
+      (acks-in s₂ store []
+      ∙ ap (λ (l : Link.Link). Link.dueNow l [])
+      (udata-in s₁ store []
+      ∙ ap (λ (l : Link.Link). Link.unacknowledgedNow l [])
+      (messages-in s store (firstSendings s .stays)
+      ∙ ap (Link.acknowledgedNow (linkIn s store)) (sym (ap (λ (x : Visit Step.Sending Message Record). x .stays) v)))))
+      (sym (ap (λ (x : Visit Step.Sending Message Record). x .state .receipts) v))
 
   pub records-in : (s : State) → tickRecords s store ≡ Step.onTickEnd (linkIn s store) .records
   unfolding tickRecords Step.onTickEnd linkIn

@@ -23,15 +23,14 @@ use Rattle.llc_rule.specs.Messages.{carrierOf, slotBefore, markOf}
 use Rattle.llc_rule.specs.Step.{onAcknowledgedPath}
 use Rattle.llc_state.specs.States.{noReceipt}
 use Rattle.llc_state.specs.Progress.{newProgress}
-use Rattle.llc_state.specs.Receipts.{receiptOf, pendingPlace, placeOf, mark}
+use Rattle.llc_state.specs.Receipts.{withPlaces, receiptOf, pendingPlace, placeOf, mark}
 use Rattle.llc_state.specs.View.{placeBit}
 use Rattle.llc_state.specs.declared.TmaUnitdataReq.{TmaUnitdataReq}
 use Rattle.llc_state.specs.declared.Entry.{Entry}
 use Rattle.llc_state.specs.declared.ScheduledOutAck.{ScheduledOutAck}
-use Rattle.llc_state.specs.declared.ReceiptPlace.{ReceiptPlace}
 use Rattle.llc_state.specs.declared.LinkSendSeq.{LinkSendSeq}
 use Rattle.llc_state.specs.declared.State.{State}
-use Rattle.llc_steps.specs.States.{messagesOf, udataOf, acksOf, rowsOf, relaid, Kept, kept}
+use Rattle.llc_steps.specs.States.{messagesOf, udataOf, acksOf, rowsOf, withMessages, withUdata, withAcks, withRows, Kept, kept}
 use Rattle.llc_steps.specs.Places.{freePlace}
 
 -- Requests ----------------------------------------------------------------------------------------------------------------
@@ -85,11 +84,12 @@ withAcknowledged r s b =
     let ns = seqOf (r .ssi) (rowsOf s) in
     let pdu = frameBits (dataPdu r ns (ackFor r s)) (r .sdu) in
     kept
-    (relaid s
-    (messagesOf s ++ (entryOf r (carrierFor r s) 0 (freePlace s) (length pdu) ns ∷ []))
-    (udataOf s)
-    (others (ackFor r s) (acksOf s))
-    (set (s .receipts) (r .receipt) (pendingPlace true))
+    (withRows
+    (withPlaces
+    (withAcks
+    (withMessages s (messagesOf s ++ (entryOf r (carrierFor r s) 0 (freePlace s) (length pdu) ns ∷ [])))
+    (others (ackFor r s) (acksOf s)))
+    (set (s .receipts) (r .receipt) (pendingPlace true)))
     (withSeq (r .ssi) (not ns) (rowsOf s)))
     (splice b (placeBit (freePlace s)) pdu)
     []
@@ -98,12 +98,9 @@ unfoldable pub withUnacknowledged : Request → ℕ → Pdu → List ScheduledOu
 withUnacknowledged r link p ds s b =
     let pdu = frameBits p (r .sdu) in
     kept
-    (relaid s
-    (messagesOf s)
-    (udataOf s ++ (entryOf r (carrierFor r s) link (freePlace s) (length pdu) false ∷ []))
-    ds
-    (set (s .receipts) (r .receipt) (pendingPlace false))
-    (rowsOf s))
+    (withPlaces
+    (withAcks (withUdata s (udataOf s ++ (entryOf r (carrierFor r s) link (freePlace s) (length pdu) false ∷ []))) ds)
+    (set (s .receipts) (r .receipt) (pendingPlace false)))
     (splice b (placeBit (freePlace s)) pdu)
     []
 
@@ -169,16 +166,16 @@ mayFinish f none s = true
 mayFinish f (some nr) s = finishable nr (expected f s) s
 
 -- process_incoming_ack
-unfoldable pub answeredBy : Bool → Found Entry → List ScheduledOutAck → State → State
-answeredBy nr nothing ds s = relaid s (messagesOf s) (udataOf s) ds (s .receipts) (rowsOf s)
-answeredBy nr (Lists.first e es) ds s =
+unfoldable pub answeredBy : Bool → Found Entry → State → State
+answeredBy nr nothing s = s
+answeredBy nr (Lists.first e es) s =
     cond (fits nr e)
-    (relaid s es (udataOf s) ds (mark Marks.acknowledged (e .sent .receipt) (s .receipts)) (rowsOf s))
-    (relaid s (e ∷ es) (udataOf s) ds (s .receipts) (rowsOf s))
+    (withPlaces (withMessages s es) (mark Marks.acknowledged (e .sent .receipt) (s .receipts)))
+    (withMessages s (e ∷ es))
 
-abbrev pub answered : Frame → Option Bool → List ScheduledOutAck → State → State
-answered f none ds s = relaid s (messagesOf s) (udataOf s) ds (s .receipts) (rowsOf s)
-answered f (some nr) ds s = answeredBy nr (expected f s) ds s
+abbrev pub answered : Frame → Option Bool → State → State
+answered f none s = s
+answered f (some nr) s = answeredBy nr (expected f s) s
 
 unfoldable pub onReceived : Frame → Outcome Received → State → List ℕ → Outcome Kept
 onReceived f (refused n) s b = refused n
@@ -186,7 +183,7 @@ onReceived f (accepted r) s b =
     ask 13 (ackRoom (nsOf (r .header)) s)
     (ask 14 (mayFinish f (nrOf (r .header)) s)
     (accepted
-    (kept (answered f (nrOf (r .header)) (scheduled f (nsOf (r .header)) s) s) b (upward f (r .header) (r .sdu)))))
+    (kept (answered f (nrOf (r .header)) (withAcks s (scheduled f (nsOf (r .header)) s))) b (upward f (r .header) (r .sdu)))))
 
 -- Reports and releases ----------------------------------------------------------------------------------------------------
 
@@ -198,19 +195,15 @@ waits i s =
     any (λ (e : Entry). eqb (e .sent .receipt) i && not (e .progress .«submitted_to_umac»)) (messagesOf s)
     || any (λ (e : Entry). eqb (e .sent .receipt) i) (udataOf s)
 
--- A state with other receipts.
-abbrev pub withReceipts : State → List ReceiptPlace → State
-withReceipts s ps = relaid s (messagesOf s) (udataOf s) (acksOf s) ps (rowsOf s)
-
 unfoldable pub onReport : ℕ → ℕ → State → List ℕ → Outcome Kept
 onReport i how s b =
     ask 15 (placeOf (s .receipts) i .taken && is Pending (receiptOf (placeOf (s .receipts) i)) && not (waits i s))
-    (accepted (kept (withReceipts s (mark (markOf how) i (s .receipts))) b []))
+    (accepted (kept (withPlaces s (mark (markOf how) i (s .receipts))) b []))
 
 unfoldable pub onRelease : ℕ → State → List ℕ → Outcome Kept
 onRelease i s b =
     ask 16 (placeOf (s .receipts) i .taken && final (receiptOf (placeOf (s .receipts) i)) && not (held i s))
-    (accepted (kept (withReceipts s (set (s .receipts) i noReceipt)) b []))
+    (accepted (kept (withPlaces s (set (s .receipts) i noReceipt)) b []))
 
 abbrev pub onReceipt : ℕ → Action → State → List ℕ → Outcome Kept
 onReceipt i (report how) s b = onReport i how s b

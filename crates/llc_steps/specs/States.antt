@@ -5,11 +5,9 @@ use lib.ListN.{length, take}
 use Rattle.llc_rule.specs.Records.{Record}
 use Rattle.llc_state.specs.declared.Entry.{Entry}
 use Rattle.llc_state.specs.declared.ScheduledOutAck.{ScheduledOutAck}
-use Rattle.llc_state.specs.declared.ReceiptPlace.{ReceiptPlace}
 use Rattle.llc_state.specs.declared.LinkSendSeq.{LinkSendSeq}
 use Rattle.llc_state.specs.declared.State.{State}
 use Rattle.llc_state.specs.States.{noEntry, noAck, noRow}
-use Rattle.llc_state.specs.Receipts.{withPlaces}
 use Rattle.llc_steps.specs.Arrays.{laid}
 
 -- What of the arrays is in use.
@@ -110,10 +108,6 @@ withAcks s ds = putAcks s (length ds) (laid noAck (s .«n_acks») ds (s .«sched
 
 abbrev pub withRows : State → List LinkSendSeq → State
 withRows s rs = putRows s (length rs) (laid noRow (s .«n_rows») rs (s .«link_send_seq»))
-
--- All of these at once, and other receipts.
-unfoldable pub relaid : State → List Entry → List Entry → List ScheduledOutAck → List ReceiptPlace → List LinkSendSeq → State
-relaid s ms us ds ps rs = withRows (withPlaces (withAcks (withUdata (withMessages s ms) us) ds) ps) rs
 
 -- What an accepted call leaves: the state, the bits of the store, and the records that it gives.
 pub record Kept : Type 0 where

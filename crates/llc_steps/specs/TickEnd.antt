@@ -9,13 +9,13 @@ use Rattle.llc_rule.specs.Lists.{among, Visit, walk}
 use Rattle.llc_rule.specs.Records.{Record, acknowledged, unacknowledged}
 use Rattle.llc_rule.specs.Messages.{overdue, reported, replyTo}
 use Rattle.llc_state.specs.Progress.{submittedAfter, doneAt, withProgress}
-use Rattle.llc_state.specs.Receipts.{receiptOf, placeOf, mark}
+use Rattle.llc_state.specs.Receipts.{withPlaces, receiptOf, placeOf, mark}
 use Rattle.llc_state.specs.View.{sentIn, dueIn}
 use Rattle.llc_state.specs.declared.Entry.{Entry}
 use Rattle.llc_state.specs.declared.ScheduledOutAck.{ScheduledOutAck}
 use Rattle.llc_state.specs.declared.ReceiptPlace.{ReceiptPlace}
 use Rattle.llc_state.specs.declared.State.{State}
-use Rattle.llc_steps.specs.States.{messagesOf, udataOf, acksOf, rowsOf, relaid}
+use Rattle.llc_steps.specs.States.{messagesOf, udataOf, acksOf, withMessages, withUdata, withAcks}
 
 -- An entry as passed down after so many retransmissions.
 abbrev pub submitted : ℕ → Entry → Entry
@@ -74,7 +74,10 @@ firstSendings s = walk firstSending (record { receipts = retransmissions s .stat
 
 -- The state after a tick end: what stays, and the other two queues empty.
 unfoldable pub ticked : State → State
-ticked s = relaid s (firstSendings s .stays) [] [] (firstSendings s .state .receipts) (rowsOf s)
+ticked s =
+    withPlaces
+    (withAcks (withUdata (withMessages s (firstSendings s .stays)) []) [])
+    (firstSendings s .state .receipts)
 
 -- And its records: each message as the store has it.
 unfoldable pub tickRecords : State → List ℕ → List Record

@@ -6,7 +6,6 @@ use mathlib.Core.Path.{_≡_, _∙_, sym, ap}
 use mathlib.Core.Bool.{true}
 use mathlib.Core.List.{List, [], _++_}
 use lib.ListN.{length, drop, length-append, length-take}
-use lib.Seq.{length-take-le}
 use Rattle.llc_rule.specs.Limits.{outputBytes}
 use Rattle.llc_rule.specs.Calls.{tickEnd}
 use Rattle.llc_rule.specs.Lists.{all, Visit, walk}
@@ -15,19 +14,20 @@ use Rattle.llc_rule.proofs.Room.{allBytes-append}
 use Rattle.llc_records.specs.Wrote.{Wrote}
 use Rattle.llc_records.proofs.Wrote.{_⨾_, as-long, same-bytes, write-is}
 use Rattle.llc_state.specs.Ranges.{messageInRange, udataInRange, inRange}
-use Rattle.llc_state.specs.States.{noEntry, noAck, noRow}
+use Rattle.llc_state.specs.Receipts.{withPlaces}
+use Rattle.llc_state.specs.States.{noEntry}
 use Rattle.llc_state.specs.declared.Entry.{Entry}
 use Rattle.llc_state.specs.declared.State.{State}
 use Rattle.llc_state.proofs.InRange.{range-tells}
 use Rattle.llc_state.proofs.Lengths.{Lengths}
 use Rattle.llc_steps.specs.Answers.{effect, answer, laidOut, delivered}
 use Rattle.llc_steps.specs.Arrays.{laid}
-use Rattle.llc_steps.specs.States.{messagesOf, udataOf, acksOf, withUdata, withAcks, relaid}
+use Rattle.llc_steps.specs.States.{messagesOf, udataOf, acksOf, withUdata, withAcks, putMessages}
 use Rattle.llc_steps.specs.Steps.{acts}
 use Rattle.llc_steps.specs.TickEnd.{Sending, firstSending, retransmissions, firstSendings, ticked, tickRecords}
-use Rattle.llc_steps.proofs.Relaid.{take-laid}
+use Rattle.llc_steps.proofs.Setters.{take-laid}
 use Rattle.llc_tick_end.specs.Passes.{sentBytesOf, replyBytesOf, udataBytesOf, afterRetransmissions, sendings, afterSendings}
-use Rattle.llc_steps.proofs.Laid.{laid-same, laid-again}
+use Rattle.llc_steps.proofs.Laid.{laid-again}
 use Rattle.llc_tick_end.proofs.Room.{tick-room}
 use Rattle.llc_tick_end.proofs.Stays.{stays-few, stays-in-range, stays-few-too}
 
@@ -45,7 +45,7 @@ passed-is :
     → Lengths s
     → inRange s ≡ true
     → withUdata (withAcks (afterSendings (afterRetransmissions s)) []) [] ≡ ticked s
-unfolding ticked relaid
+unfolding ticked
 passed-is s long h =
     let v = sendings-are s in
     let r = range-tells s h .head in
@@ -57,23 +57,7 @@ passed-is s long h =
     ap (λ (x : Visit Sending Entry Entry). laid noEntry (length ms) (x .stays) (laid noEntry (s .«n_messages») ms (s .«outbound_messages»))) v
     ∙ laid-again noEntry (s .«n_messages») ms (firstSendings s .stays) (s .«outbound_messages») (stays-few-too s) few
     (omega (arith, r .messages, long .messages)) in
-    let rows : s .«n_rows» ≤ length (s .«link_send_seq») = omega (arith, r .rows, long .rows) in
-    λ i.
-    record {
-      started = s .started;
-      «main_carrier» = s .«main_carrier»;
-      t251 = s .t251;
-      dltime = s .dltime;
-      «n_messages» = length (v i .stays);
-      «outbound_messages» = again i;
-      «n_udata» = 0;
-      «outbound_udata_messages» = laid noEntry (s .«n_udata») [] (s .«outbound_udata_messages»);
-      «n_acks» = 0;
-      «scheduled_out_acks» = laid noAck (s .«n_acks») [] (s .«scheduled_out_acks»);
-      receipts = v i .state .receipts;
-      «n_rows» = sym (length-take-le (s .«n_rows») (s .«link_send_seq») rows) i;
-      «link_send_seq» = sym (laid-same noRow (s .«n_rows») (s .«link_send_seq») rows) i;
-    }
+    λ i. withPlaces (withAcks (withUdata (putMessages s (length (v i .stays)) (again i)) []) []) (v i .state .receipts)
 
 -- The bytes that they write.
 tick-bytes :

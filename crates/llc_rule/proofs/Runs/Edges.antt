@@ -5,7 +5,7 @@ use mathlib.Core.Bool.{false, true}
 use mathlib.Core.List.{List, [], _∷_, _++_}
 use lib.ListN.{replicate}
 use Rattle.llc_rule.specs.Messages.{noReceipts}
-use Rattle.llc_rule.specs.Link.{Link, Row, new, startedWith, withQueues}
+use Rattle.llc_rule.specs.Link.{Link, Row, new, startedWith, withRows}
 use Rattle.llc_rule.proofs.Runs.{Told, hex, _gets_, _with_, _and_, request, requests, agrees}
 
 -- Question 2: values that are too short and too long.
@@ -217,7 +217,7 @@ earlier zero = []
 earlier (suc n) = record { ssi = n; bit = false } ∷ earlier n
 
 unfoldable pub crowded : Link
-crowded = withQueues (startedWith 0x05fa 4) [] [] [] noReceipts (earlier 254)
+crowded = withRows (startedWith 0x05fa 4) (earlier 254)
 
 -- Row 256 and 257: 7 is asked on the acknowledged path alone, of an address without a row, and before 8.
 pub rows : List Told

@@ -1,10 +1,8 @@
 use mathlib.Core.Path.{_∙_, sym}
 use borrow.Author.Tests.{not-true, not-false}
 use Rattle.llc_state.proofs.InRange.{range-tells}
-use Rattle.llc_state.proofs.Lengths.{lengths}
 use Rattle.llc_frames.proofs.Due.{same-queue}
 use Rattle.llc_frames.proofs.Paths.{has-room, acks-full, no-nr, not-finishable, with-nr}
-use Rattle.llc_steps.proofs.Updates.{counts}
 use borrow.Author.Needs.{needs}
 use Rattle.llc_frames.proofs.frames.rx_tma_unitdata_ind_bl.Statement.{statement}
 use Rattle.llc_frames.proofs.frames.rx_tma_unitdata_ind_bl.Tie as tie
@@ -46,7 +44,6 @@ returns-2 c =
     let a = d .args in
     let n = c .before .before .before .before .before .before .before .before .before .before .before .seq-numbers in
     no-nr (a .state) (a .f) (a .bytes .now) (a .pdu) (a .sdu .now) (a .place) (a .len) (n .result) (n .ensures .0) (n .ensures .1)
-    (counts (a .state) (d .pre .0) (lengths (a .state) (d .good .0)))
     (c .before .before .before .before .before .before .before .before .if1 .left)
     (not-true (n .result .«has_nr») (c .before .before .before .before .before .before .if2 .taken))
     (c .before .acknowledge .ensures)
@@ -111,7 +108,6 @@ returns-4 c =
     with-nr (a .state) (a .f) (a .bytes .now) (a .pdu) (a .sdu .now) (a .place) (a .len) (n .result) (n .ensures .0) (n .ensures .1)
     (c .before .before .before .before .before .before .before .before .before .expected-ack-for-ssi .ensures)
     (not-false (n .result .«has_nr») (c .before .before .before .before .before .before .before .before .before .before .if2 .left))
-    (counts (a .state) (d .pre .0) (lengths (a .state) (d .good .0)))
     (c .before .before .before .before .before .before .before .before .before .before .before .before .if1 .left)
     (sym (c .before .before .before .before .before .before .before .before .may-finish .ensures) ∙ not-false (c .before .before .before .before .before .before .before .before .may-finish .result) (c .before .before .before .before .before .before .before .if3 .left))
     (c .before .before .acknowledge2 .ensures)

@@ -5,9 +5,7 @@ use Rattle.tx_receipt.specs.States.{final}
 use Rattle.llc_state.specs.Receipts.{placeOf}
 use Rattle.llc_state.specs.declared.State.{State}
 use Rattle.llc_state.proofs.InRange.{range-tells}
-use Rattle.llc_state.proofs.Lengths.{lengths}
 use Rattle.llc_steps.specs.Answers.{answer}
-use Rattle.llc_steps.proofs.Updates.{counts}
 use Rattle.llc_receipts.proofs.Reported.{isFinal, not-final, still-held, freed}
 use borrow.Author.Needs.{needs}
 use Rattle.llc_receipts.proofs.reports.release.Statement.{statement}
@@ -71,7 +69,7 @@ returns-3 c =
     let d = c .before .before .before .before .before .before .before .before .before in
     let s = d .args .t1 in
     let e = c .before .before .before .before .before .before in
-    freed s (d .args .receipt) (counts s (d .pre .0) (lengths s (d .good .0)))
+    freed s (d .args .receipt)
     (sym (finally e) ∙ not-false (tested e) (c .before .before .before .before .if1 .left))
     (sym (c .before .before .before .holds .ensures) ∙ c .before .before .if2 .left)
     (c .accepted .ensures ∙ ap (λ (t : State). answer 0 t 0) (c .before .free-receipt .ensures))

@@ -9,9 +9,7 @@ use Rattle.tx_receipt.specs.declared.TxReceipt.{TxReceipt}
 use Rattle.llc_state.specs.Receipts.{placeOf, withPlaces}
 use Rattle.llc_state.specs.declared.ReceiptPlace.{ReceiptPlace}
 use Rattle.llc_state.proofs.InRange.{range-tells}
-use Rattle.llc_state.proofs.Lengths.{lengths}
 use Rattle.llc_steps.specs.Answers.{answer}
-use Rattle.llc_steps.proofs.Updates.{counts}
 use Rattle.llc_receipts.proofs.Reported.{isPending, not-pending, still-waits, transmitted, discarded}
 use borrow.Author.Needs.{needs}
 use Rattle.llc_receipts.proofs.reports.rx_tma_report_ind.Statement.{statement}
@@ -82,7 +80,7 @@ returns-3 : tie.Need-returns-3
 returns-3 c =
     let d = c .before .before .before .before .before .before .before .before .before .before .before in
     let s = d .args .t1 in
-    transmitted s (d .args .receipt) (d .args .how) (counts s (d .pre .0) (lengths s (d .good .0)))
+    transmitted s (d .args .receipt) (d .args .how)
     (sym (pending (c .before .before .before .before .before .before .before)) ∙ not-false (tested (c .before .before .before .before .before .before .before)) (c .before .before .before .before .before .if1 .left))
     (sym (c .before .before .before .before .waits .ensures) ∙ c .before .before .before .if2 .left)
     (c .before .before .if3 .taken)
@@ -104,7 +102,7 @@ returns-4 : tie.Need-returns-4
 returns-4 c =
     let d = c .before .before .before .before .before .before .before .before .before .before .before in
     let s = d .args .t1 in
-    discarded s (d .args .receipt) (d .args .how) (counts s (d .pre .0) (lengths s (d .good .0)))
+    discarded s (d .args .receipt) (d .args .how)
     (sym (pending (c .before .before .before .before .before .before .before)) ∙ not-false (tested (c .before .before .before .before .before .before .before)) (c .before .before .before .before .before .if1 .left))
     (sym (c .before .before .before .before .waits .ensures) ∙ c .before .before .before .if2 .left)
     (c .before .before .if3 .left)

@@ -5,7 +5,6 @@ use Rattle.bits.specs.Bits.{bits}
 use Rattle.llc_calls.specs.Decoded.{requestOf}
 use Rattle.llc_state.specs.declared.State.{State}
 use Rattle.llc_state.proofs.InRange.{range-tells}
-use Rattle.llc_state.proofs.Lengths.{lengths}
 use Rattle.llc_requests.proofs.Puts.{allowed, place-below, put-unacknowledged}
 use Rattle.llc_requests.proofs.requests.put_unacknowledged.Statement.{statement}
 use Rattle.llc_requests.proofs.requests.put_unacknowledged.Tie as tie
@@ -76,8 +75,6 @@ returns c =
     (s .args .link)
     (s .args .pdu)
     (s .args .ack)
-    (lengths (s .args .state) (s .good .0))
-    (s .pre .0)
     (carrier .preferred-carrier .ensures)
     (place .free-place .ensures)
     (frame .put-frame .ensures .0)

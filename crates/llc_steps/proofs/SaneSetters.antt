@@ -17,7 +17,7 @@ use Rattle.llc_rule.specs.Sound.{All}
 use Rattle.llc_rule.proofs.Lists.{by-test, both, and-true, all-append, Split, FoundBy}
 use Rattle.llc_rule.proofs.SoundLists.{all-middle}
 use Rattle.llc_state.specs.Ranges.{ackInRange, rowInRange, placeInRange, messageInRange, udataInRange}
-use Rattle.llc_state.specs.Receipts.{receiptOf, placeOf, pendingPlace, markedPlace, mark}
+use Rattle.llc_state.specs.Receipts.{withPlaces, receiptOf, placeOf, pendingPlace, markedPlace, mark}
 use Rattle.llc_state.specs.States.{noEntry, noAck, noReceipt, noRow}
 use Rattle.llc_state.specs.declared.Entry.{Entry}
 use Rattle.llc_state.specs.declared.ScheduledOutAck.{ScheduledOutAck}
@@ -25,10 +25,11 @@ use Rattle.llc_state.specs.declared.ReceiptPlace.{ReceiptPlace}
 use Rattle.llc_state.specs.declared.LinkSendSeq.{LinkSendSeq}
 use Rattle.llc_state.specs.declared.State.{State}
 use Rattle.llc_state.proofs.InRange.{range-tells, in-range}
-use Rattle.llc_steps.specs.States.{messagesOf, udataOf, acksOf, rowsOf, relaid}
+use Rattle.llc_steps.specs.Arrays.{laid}
+use Rattle.llc_steps.specs.States.{messagesOf, udataOf, acksOf, rowsOf, withMessages, withUdata, withAcks, withRows}
 use Rattle.llc_steps.specs.Holds.{Ready}
 use Rattle.llc_steps.specs.Sane.{Sane}
-use Rattle.llc_steps.proofs.Relaid.{take-laid}
+use Rattle.llc_steps.proofs.Setters.{take-laid}
 use Rattle.llc_steps.proofs.Ready.{ready}
 use Rattle.llc_steps.proofs.Laid.{length-laid}
 
@@ -88,6 +89,18 @@ module _ {A : Type 0} (p : A → Bool) where
   pub others-used : (k : ℕ) (q : A → Bool) (l : List A) (f : Found A) → FoundBy q l f → Used k l → Used k (others f l)
   others-used k q l nothing s u = u
   others-used k q l (first x xs) s u = behind-first k x xs (found-first k q l x xs s u)
+
+  -- An array of k with other elements in use.
+  record LaidUsed (empty : A) (k n : ℕ) (used l : List A) : Type 0 where
+    long : length (laid empty n used l) ≡ k
+    each : all p (take (length used) (laid empty n used l)) ≡ true
+
+  laid-used : (empty : A) (k n : ℕ) (used l : List A) → length l ≡ k → n ≤ k → Used k used → LaidUsed empty k n used l
+  laid-used empty k n used l long h u =
+      record {
+        long = length-laid empty n used l (omega arith) (omega (arith, u .few)) ∙ long;
+        each = ap (all p) (take-laid empty n used l) ∙ each-all used (u .each);
+      }
 
 -- Receipts' places --------------------------------------------------------------------------------------------------------
 
@@ -163,47 +176,36 @@ module _ (s : State) (store : List ℕ) (ok : Sane s store) where
   pub places-full : Full (s .receipts)
   places-full = record { long = ok .places; each = range-tells s (ok .range) .places }
 
-  -- The state with other elements in use, and a store that is as long.
-  pub relaid-sane :
-      (ms us : List Entry) (ds : List ScheduledOutAck) (ps : List ReceiptPlace) (rs : List LinkSendSeq) (after : List ℕ)
-      → Used messageInRange 64 ms
-      → Used udataInRange 32 us
-      → Used ackInRange 64 ds
-      → Full ps
-      → Used rowInRange 256 rs
-      → length after ≡ 8 * storeBytes
-      → Sane (relaid s ms us ds ps rs) after
-  unfolding relaid
-  relaid-sane ms us ds ps rs after m u d places w long =
-      let r = range-tells s (ok .range) in
-      let q = r .head in
-      record {
-        messages =
-            length-laid noEntry (s .«n_messages») ms (s .«outbound_messages») (omega (arith, ok .messages, q .messages)) (omega (arith, ok .messages, m .few))
-            ∙ ok .messages;
-        udata =
-            length-laid noEntry (s .«n_udata») us (s .«outbound_udata_messages») (omega (arith, ok .udata, q .udata)) (omega (arith, ok .udata, u .few))
-            ∙ ok .udata;
-        acks =
-            length-laid noAck (s .«n_acks») ds (s .«scheduled_out_acks») (omega (arith, ok .acks, q .acks)) (omega (arith, ok .acks, d .few)) ∙ ok .acks;
-        places = places .long;
-        rows =
-            length-laid noRow (s .«n_rows») rs (s .«link_send_seq») (omega (arith, ok .rows, q .rows)) (omega (arith, ok .rows, w .few)) ∙ ok .rows;
-        range =
-            in-range (relaid s ms us ds ps rs)
-            (record {
-              head = record { messages = m .few; udata = u .few; acks = d .few; rows = w .few; timer = q .timer; time = q .time };
-              messages =
-                  ap (all messageInRange) (take-laid noEntry (s .«n_messages») ms (s .«outbound_messages»)) ∙ each-all messageInRange ms (m .each);
-              udata = ap (all udataInRange) (take-laid noEntry (s .«n_udata») us (s .«outbound_udata_messages»)) ∙ each-all udataInRange us (u .each);
-              acks = ap (all ackInRange) (take-laid noAck (s .«n_acks») ds (s .«scheduled_out_acks»)) ∙ each-all ackInRange ds (d .each);
-              rows = ap (all rowInRange) (take-laid noRow (s .«n_rows») rs (s .«link_send_seq»)) ∙ each-all rowInRange rs (w .each);
-              places = places .each;
-            });
-        long = long;
-      }
+-- The same with another store that is as long, and with other elements in use that are in range.
+module _ {s : State} {store : List ℕ} (ok : Sane s store) where
+  pub store-sane : {after : List ℕ} → length after ≡ 8 * storeBytes → Sane s after
+  store-sane long = search (ok, long)
 
-  -- With other receipts alone.
-  pub receipts-sane : (ps : List ReceiptPlace) → Full ps → Sane (relaid s (messagesOf s) (udataOf s) (acksOf s) ps (rowsOf s)) store
-  receipts-sane ps places =
-      relaid-sane (messagesOf s) (udataOf s) (acksOf s) ps (rowsOf s) store messages-used udata-used acks-used places rows-used (ok .long)
+  pub messages-sane : {ms : List Entry} → Used messageInRange 64 ms → Sane (withMessages s ms) store
+  messages-sane {ms} u =
+      let r = range-tells s (ok .range) in
+      let l = laid-used messageInRange noEntry 64 (s .«n_messages») ms (s .«outbound_messages») (ok .messages) (r .head .messages) u in
+      search (ok, l .long, in-range (withMessages s ms) (search (r, u .few, l .each)))
+
+  pub udata-sane : {us : List Entry} → Used udataInRange 32 us → Sane (withUdata s us) store
+  udata-sane {us} u =
+      let r = range-tells s (ok .range) in
+      let l = laid-used udataInRange noEntry 32 (s .«n_udata») us (s .«outbound_udata_messages») (ok .udata) (r .head .udata) u in
+      search (ok, l .long, in-range (withUdata s us) (search (r, u .few, l .each)))
+
+  pub acks-sane : {ds : List ScheduledOutAck} → Used ackInRange 64 ds → Sane (withAcks s ds) store
+  acks-sane {ds} u =
+      let r = range-tells s (ok .range) in
+      let l = laid-used ackInRange noAck 64 (s .«n_acks») ds (s .«scheduled_out_acks») (ok .acks) (r .head .acks) u in
+      search (ok, l .long, in-range (withAcks s ds) (search (r, u .few, l .each)))
+
+  pub places-sane : {ps : List ReceiptPlace} → Full ps → Sane (withPlaces s ps) store
+  places-sane {ps} f =
+      let r = range-tells s (ok .range) in
+      search (ok, f .long, in-range (withPlaces s ps) (search (r, f .each)))
+
+  pub rows-sane : {rs : List LinkSendSeq} → Used rowInRange 256 rs → Sane (withRows s rs) store
+  rows-sane {rs} u =
+      let r = range-tells s (ok .range) in
+      let l = laid-used rowInRange noRow 256 (s .«n_rows») rs (s .«link_send_seq») (ok .rows) (r .head .rows) u in
+      search (ok, l .long, in-range (withRows s rs) (search (r, u .few, l .each)))
