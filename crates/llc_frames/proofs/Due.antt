@@ -7,14 +7,15 @@ use borrow.Author.Tests.{ltb-true}
 use Rattle.llc_rule.specs.Lists.{all}
 use Rattle.llc_rule.specs.Messages.{slotBefore}
 use Rattle.llc_calls.specs.declared.FrameCall.{FrameCall}
+use Rattle.llc_received.specs.Numbers.{numberIf, nsIn}
+use Rattle.llc_received.specs.declared.numbers.SeqNumbers.{SeqNumbers}
 use Rattle.llc_state.specs.Ranges.{messageInRange, inRange}
 use Rattle.llc_state.specs.declared.State.{State}
 use Rattle.llc_state.proofs.InRange.{range-tells}
 use Rattle.llc_steps.specs.Calls.{ackRoom}
 use Rattle.llc_steps.specs.States.{messagesOf, acksOf, withAcks}
 use Rattle.llc_steps.proofs.Updates.{Counts, same-acks}
-use Rattle.llc_frames.specs.Numbers.{numberIf, nsIn, ackTo, dueTo}
-use Rattle.llc_frames.specs.declared.frames.SeqNumbers.{SeqNumbers}
+use Rattle.llc_frames.specs.Numbers.{ackTo, dueTo}
 
 module _ (s : State) (f : FrameCall) (n : SeqNumbers) where
   -- No N(S): as many as before. An N(S): there is room for one more, and it is put last.

@@ -1,6 +1,4 @@
-pub mod Apart
 pub mod Due
 pub mod Found
 pub mod Paths
 pub mod Slot
-pub mod Upward

@@ -26,6 +26,12 @@ use Rattle.llc_calls.specs.Ranges.{frameRange}
 use Rattle.llc_calls.specs.declared.FrameCall.{FrameCall}
 use Rattle.llc_records.specs.Wrote.{Wrote}
 use Rattle.llc_records.proofs.Wrote.{write-is}
+use Rattle.llc_received.specs.Numbers.{numberIf, nsIn, nrIn}
+use Rattle.llc_received.specs.Reading.{readingOf, SduIn, SduInside}
+use Rattle.llc_received.specs.Upward.{SduLent}
+use Rattle.llc_received.specs.declared.numbers.SeqNumbers.{SeqNumbers}
+use Rattle.llc_received.specs.declared.reading.Reading.{Reading}
+use Rattle.llc_received.proofs.SentUp.{up-size, frame-small, lent}
 use Rattle.llc_state.specs.declared.Entry.{Entry}
 use Rattle.llc_state.specs.declared.ScheduledOutAck.{ScheduledOutAck}
 use Rattle.llc_state.specs.declared.State.{State}
@@ -35,13 +41,8 @@ use Rattle.llc_steps.specs.Queues.{position, expectedOn}
 use Rattle.llc_steps.specs.States.{messagesOf, withAcks, Kept, kept}
 use Rattle.llc_steps.specs.declared.Answer.{Answer}
 use Rattle.llc_frames.specs.Answered.{foundAt}
-use Rattle.llc_frames.specs.Numbers.{numberIf, nsIn, nrIn, dueTo}
-use Rattle.llc_frames.specs.Reading.{readingOf, SduIn, SduInside}
-use Rattle.llc_frames.specs.Upward.{SduLent}
-use Rattle.llc_frames.specs.declared.frames.SeqNumbers.{SeqNumbers}
-use Rattle.llc_frames.specs.declared.reading.Reading.{Reading}
+use Rattle.llc_frames.specs.Numbers.{dueTo}
 use Rattle.llc_frames.proofs.Found.{found-is}
-use Rattle.llc_frames.proofs.Upward.{up-size, frame-small, lent}
 
 -- A call that is refused, and one that writes records and leaves another state.
 refused-store :

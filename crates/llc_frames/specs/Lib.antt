@@ -1,4 +1,2 @@
 pub mod Answered
 pub mod Numbers
-pub mod Reading
-pub mod Upward

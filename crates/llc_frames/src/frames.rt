@@ -10,20 +10,17 @@ ghost use Rattle.tdma_time.specs.Slots.{valid};
 ghost use Rattle.llc_rule.specs.Limits.{outputBytes};
 ghost use Rattle.llc_rule.specs.Lists.{all};
 ghost use Rattle.llc_rule.specs.Messages.{slotBefore};
-ghost use Rattle.llc_rule.specs.Received.{received, nsOf, nrOf, upward};
-ghost use Rattle.llc_rule.specs.Records.{allBytes, indicationBytes};
+ghost use Rattle.llc_rule.specs.Received.{received};
 ghost use Rattle.llc_calls.specs.Decoded.{frameOf, FrameInside};
 ghost use Rattle.llc_calls.specs.Ranges.{frameRange};
-ghost use Rattle.llc_records.specs.Wrote.{Wrote};
+ghost use Rattle.llc_received.specs.Numbers.{nsIn};
+ghost use Rattle.llc_received.specs.Upward.{SduLent};
 ghost use Rattle.llc_state.specs.Ranges.{messageInRange, inRange};
 ghost use Rattle.llc_steps.specs.Answers.{WithAnyStore};
 ghost use Rattle.llc_steps.specs.Calls.{ackRoom, fits as fitsTo, finishable, answeredBy, onReceived};
 ghost use Rattle.llc_steps.specs.States.{messagesOf, withAcks};
 ghost use Rattle.llc_frames.specs.Answered.{foundAt};
-ghost use Rattle.llc_frames.specs.Numbers.{nsIn, nrIn, dueTo};
-ghost use Rattle.llc_frames.specs.Upward.{sentUp, SduLent};
-use crate::reading::Reading;
-use crate::reading::read;
+ghost use Rattle.llc_frames.specs.Numbers.{dueTo};
 use llc_calls::FrameCall;
 use llc_pdus::Pdu;
 use llc_pdus::sdu_bytes;
@@ -31,55 +28,17 @@ use llc_queues::expected_ack_for_ssi;
 use llc_queues::push_front_expected_ack;
 use llc_queues::schedule_outgoing_ack;
 use llc_queues::take_expected_ack;
-use llc_records::IndicationRecord;
-use llc_records::put_indication;
+use llc_received::Reading;
+use llc_received::SeqNumbers;
+use llc_received::put_upward;
+use llc_received::read;
+use llc_received::seq_numbers;
 use llc_state::Entry;
 use llc_state::ScheduledOutAck;
 use llc_state::State;
 use llc_steps::Answer;
 use tdma_time::Moved;
 use tdma_time::TdmaTime;
-
-// The sequence numbers of a PDU.
-struct SeqNumbers {
-    has_ns: bool,
-    ns: bool,
-    has_nr: bool,
-    nr: bool,
-}
-
-// The N(S) and the N(R) of a PDU.
-fn seq_numbers(pdu: Pdu) -> SeqNumbers
-    ensures { λ r. ⌜ nsIn r ≡ nsOf pdu ⌝ }
-    ensures { λ r. ⌜ nrIn r ≡ nrOf pdu ⌝ }
-{
-    match pdu {
-        Pdu::BlAdata { has_fcs: _, nr, ns } => SeqNumbers {
-            has_ns: true,
-            ns,
-            has_nr: true,
-            nr,
-        },
-        Pdu::BlData { has_fcs: _, ns } => SeqNumbers {
-            has_ns: true,
-            ns,
-            has_nr: false,
-            nr: false,
-        },
-        Pdu::BlUdata { has_fcs: _ } => SeqNumbers {
-            has_ns: false,
-            ns: false,
-            has_nr: false,
-            nr: false,
-        },
-        Pdu::BlAck { has_fcs: _, nr } => SeqNumbers {
-            has_ns: false,
-            ns: false,
-            has_nr: true,
-            nr,
-        },
-    }
-}
 
 // The slot two before now, in which a message on the uplink was sent.
 fn slot_before(time: TdmaTime) -> u8
@@ -89,81 +48,6 @@ fn slot_before(time: TdmaTime) -> u8
     match time.add_timeslots(-2) {
         Moved::To(sent) => sent.t,
         Moved::OutOfRange => 0,
-    }
-}
-
-// One record that goes up, from the front of the output on: its SDU is len bits from a place of the part that holds it.
-fn put_sdu(
-    out: &mut [u8],
-    f: FrameCall,
-    bytes: &[u8],
-    kind: u8,
-    link: u32,
-    has_fcs: bool,
-    sdu: &[u8],
-    place: usize,
-    len: usize,
-) -> usize
-    requires { ⌜ outputBytes ≤ length (now out) ⌝ }
-    requires { ⌜ frameRange f ≡ true ⌝ }
-    requires { ⌜ FrameInside f (now bytes) ⌝ }
-    requires { ⌜ SduLent (now sdu) place len ⌝ }
-    ensures { λ r. ⌜ Wrote (now (out .entry)) 0 (indicationBytes kind (sentUp (frameOf f (now (bytes .entry))) link «has_fcs» (part (bits (now (sdu .entry))) place len))) (now (out .exit)) r ⌝ }
-{
-    let s = IndicationRecord {
-        ssi: f.ssi,
-        ssi_type: f.ssi_type,
-        link,
-        endpoint: f.endpoint,
-        has_fcs,
-    };
-    put_indication(
-        out,
-        0,
-        kind,
-        s,
-        bytes,
-        f.block,
-        f.block_len,
-        sdu,
-        place,
-        len,
-    )
-}
-
-// What goes up of a frame: its SDU, as TL-UNITDATA after BL-UDATA, else as TL-DATA, and with its link id after BL-DATA and
-// BL-ADATA alone. Of a BL-ACK with nothing left nothing goes up.
-fn put_upward(
-    out: &mut [u8],
-    f: FrameCall,
-    bytes: &[u8],
-    pdu: Pdu,
-    sdu: &[u8],
-    place: usize,
-    len: usize,
-) -> usize
-    requires { ⌜ outputBytes ≤ length (now out) ⌝ }
-    requires { ⌜ frameRange f ≡ true ⌝ }
-    requires { ⌜ FrameInside f (now bytes) ⌝ }
-    requires { ⌜ SduLent (now sdu) place len ⌝ }
-    ensures { λ r. ⌜ Wrote (now (out .entry)) 0 (allBytes (upward (frameOf f (now (bytes .entry))) pdu (part (bits (now (sdu .entry))) place len))) (now (out .exit)) r ⌝ }
-{
-    match pdu {
-        Pdu::BlAdata {
-            has_fcs,
-            nr: _,
-            ns: _,
-        } => put_sdu(out, f, bytes, 4, f.link, has_fcs, sdu, place, len),
-        Pdu::BlData { has_fcs, ns: _ } => {
-            put_sdu(out, f, bytes, 4, f.link, has_fcs, sdu, place, len)
-        }
-        Pdu::BlUdata { has_fcs } => put_sdu(out, f, bytes, 5, 0, has_fcs, sdu, place, len),
-        Pdu::BlAck { has_fcs, nr: _ } => {
-            if len == 0 {
-                return 0;
-            }
-            put_sdu(out, f, bytes, 4, 0, has_fcs, sdu, place, len)
-        }
     }
 }
 
@@ -252,14 +136,14 @@ fn rx_tma_unitdata_ind_bl(
         return Answer::refused(13, state);
     }
     if !numbers.has_nr {
-        let n = put_upward(out, f, bytes, pdu, sdu, place, len);
+        let n = put_upward(out, 0, f, bytes, pdu, sdu, place, len);
         return Answer::accepted(acknowledge(state, f, numbers), n);
     }
     let i = expected_ack_for_ssi(state, f.ssi, f.carrier);
     if !may_finish(state, i, numbers.nr) {
         return Answer::refused(14, state);
     }
-    let n = put_upward(out, f, bytes, pdu, sdu, place, len);
+    let n = put_upward(out, 0, f, bytes, pdu, sdu, place, len);
     let next = acknowledge(state, f, numbers);
     Answer::accepted(process_incoming_ack(next, i, numbers.nr), n)
 }

@@ -1,5 +1,4 @@
 // Frames that came in, from tetra-entities' llc_bs_ms.rs.
 mod frames;
-mod reading;
 
 pub use frames::rx_tma_unitdata_ind;

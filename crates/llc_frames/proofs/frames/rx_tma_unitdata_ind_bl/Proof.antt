@@ -1,5 +1,7 @@
+use native.Mathlib.Omega.{arith}
 use mathlib.Core.Path.{_∙_, sym}
 use borrow.Author.Tests.{not-true, not-false}
+use Rattle.llc_received.proofs.SentUp.{up-most}
 use Rattle.llc_state.proofs.InRange.{range-tells}
 use Rattle.llc_frames.proofs.Due.{same-queue}
 use Rattle.llc_frames.proofs.Paths.{has-room, acks-full, no-nr, not-finishable, with-nr}
@@ -23,7 +25,9 @@ returns c =
 put-upward-requires : tie.Need-put-upward-requires
 put-upward-requires c κs =
     let d = c .before .before .before .before .before .before .before .before .before .before in
-    (d .pre .1 .0, (d .pre .1 .1 .0, (d .pre .1 .1 .1 .0, d .pre .1 .1 .1 .1 .0)))
+    let a = d .args in
+    let most = up-most (a .f) (a .bytes .now) (d .pre .1 .1 .1 .0) (a .sdu .now) (a .place) (a .len) (d .pre .1 .1 .1 .1 .0) (a .pdu) (d .pre .1 .1 .0) in
+    (d .pre .1 .1 .0, (d .pre .1 .1 .1 .0, (d .pre .1 .1 .1 .1 .0, omega (arith, most, d .pre .1 .0))))
 
 acknowledge-requires : tie.Need-acknowledge-requires
 acknowledge-requires c κs =
@@ -80,7 +84,9 @@ returns-3 c =
 put-upward-requires-2 : tie.Need-put-upward-requires-2
 put-upward-requires-2 c κs =
     let d = c .before .before .before .before .before .before .before .before .before .before .before .before .before in
-    (d .pre .1 .0, (d .pre .1 .1 .0, (d .pre .1 .1 .1 .0, d .pre .1 .1 .1 .1 .0)))
+    let a = d .args in
+    let most = up-most (a .f) (a .bytes .now) (d .pre .1 .1 .1 .0) (a .sdu .now) (a .place) (a .len) (d .pre .1 .1 .1 .1 .0) (a .pdu) (d .pre .1 .1 .0) in
+    (d .pre .1 .1 .0, (d .pre .1 .1 .1 .0, (d .pre .1 .1 .1 .1 .0, omega (arith, most, d .pre .1 .0))))
 
 acknowledge-requires-2 : tie.Need-acknowledge-requires-2
 acknowledge-requires-2 c κs =

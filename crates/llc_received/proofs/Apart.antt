@@ -24,7 +24,7 @@ use Rattle.llc_pdus.specs.declared.Sdu.{Sdu}
 use Rattle.llc_pdus.proofs.FirstByte.{header-length}
 use Rattle.llc_pdus.proofs.Laws.{header-ends}
 use Rattle.llc_rule.specs.Received.{received, checked, checks}
-use Rattle.llc_frames.specs.Reading.{SduIn}
+use Rattle.llc_received.specs.Reading.{SduIn}
 
 -- The bits of the SDU of a frame of n bits.
 abbrev pub sduIn : List ℕ → ℕ → Sdu → List ℕ

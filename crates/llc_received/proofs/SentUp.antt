@@ -12,20 +12,20 @@ use Rattle.bits.specs.Bits.{bits, part}
 use Rattle.bits.proofs.Laws.{length-bits, length-part}
 use Rattle.llc_pdus.specs.declared.Pdu.{Pdu}
 use Rattle.llc_pdus.specs.declared.Pdu.the-variants.{BlAdata, BlData, BlUdata, BlAck}
-use Rattle.llc_rule.specs.Limits.{longestFrame, outputBytes}
+use Rattle.llc_rule.specs.Limits.{longestFrame}
 use Rattle.llc_rule.specs.Calls.{Frame}
 use Rattle.llc_rule.specs.Ranges.{isType}
 use Rattle.llc_rule.specs.Received.{upward}
 use Rattle.llc_rule.specs.Records.{bytes, allBytes, indicationBytes}
 use Rattle.llc_rule.proofs.Lists.{both}
-use Rattle.llc_rule.proofs.Records.{small-indication}
+use Rattle.llc_rule.proofs.Records.{mostUp, small-indication}
 use Rattle.llc_calls.specs.Decoded.{frameOf, FrameInside}
 use Rattle.llc_calls.specs.Ranges.{frameRange}
 use Rattle.llc_calls.specs.declared.FrameCall.{FrameCall}
 use Rattle.llc_records.specs.Wrote.{Wrote}
 use Rattle.llc_records.specs.Records as Records
 use Rattle.llc_records.proofs.Wrote.{same-bytes}
-use Rattle.llc_frames.specs.Upward.{sentUp, SduLent}
+use Rattle.llc_received.specs.Upward.{sentUp, SduLent}
 
 -- What each PDU sends up.
 module _ (f : Frame) (sdu : List ℕ) where
@@ -57,12 +57,12 @@ unfolding upward allBytes
 none-up f [] c nr h = refl
 none-up f (b ∷ sdu) c nr h = absurd (omega (arith, h))
 
--- It takes at most 434 bytes.
+-- How much room it takes at most.
 pub up-size :
     (f : Frame) (p : Pdu) (sdu : List ℕ)
     → length (f .block) ≤ 64
     → length sdu ≤ longestFrame
-    → length (allBytes (upward f p sdu)) ≤ 434
+    → length (allBytes (upward f p sdu)) ≤ mostUp
 up-size f (BlAdata c nr ns) sdu hb hs = rw (adata-up f sdu c nr ns) (small-indication 4 (sentUp f (f .link) c sdu) hb hs)
 up-size f (BlData c ns) sdu hb hs = rw (data-up f sdu c ns) (small-indication 4 (sentUp f (f .link) c sdu) hb hs)
 up-size f (BlUdata c) sdu hb hs = rw (udata-up f sdu c) (small-indication 5 (sentUp f 0 c sdu) hb hs)
@@ -103,33 +103,42 @@ module _ (f : FrameCall) (b : List ℕ) (inside : FrameInside f b) (l : List ℕ
   bytes-are kind link fcs = refl
 
   pub wrote-sdu :
-      (kind link : ℕ) (fcs : Bool) {out m : List ℕ} {r : ℕ}
-      → Wrote out 0 (bytesLent kind link fcs) m r
-      → Wrote out 0 (indicationBytes kind (sentUp (frameOf f b) link fcs sduOf)) m r
+      (kind link : ℕ) (fcs : Bool) {out m : List ℕ} {at r : ℕ}
+      → Wrote out at (bytesLent kind link fcs) m r
+      → Wrote out at (indicationBytes kind (sentUp (frameOf f b) link fcs sduOf)) m r
   wrote-sdu kind link fcs w = same-bytes (bytes-are kind link fcs) w
 
-  -- There is room for it, and its parts lie in what is lent.
+  -- What writing it asks: its parts lie in what is lent, and there is room.
   pub asks-sdu :
-      (kind link : ℕ) (fcs : Bool) (n : ℕ)
+      (kind link : ℕ) (fcs : Bool) (at n : ℕ)
       → frameRange f ≡ true
-      → outputBytes ≤ n
+      → at + length (indicationBytes kind (sentUp (frameOf f b) link fcs sduOf)) ≤ n
       → (f .«block_len» < 2 ^ 16)
       × ((f .block + f .«block_len» ≤ length b)
       × ((len < 2 ^ 16)
-      × ((place + len ≤ 8 * length l) × ((place + len < 2 ^ 64) × (0 + length (bytesLent kind link fcs) ≤ n)))))
+      × ((place + len ≤ 8 * length l) × ((place + len < 2 ^ 64) × (at + length (bytesLent kind link fcs) ≤ n)))))
   unfolding frameOf
-  asks-sdu kind link fcs n h long =
+  asks-sdu kind link fcs at n h room =
       let small = frame-small f h in
-      let k = length-take (f .«block_len») (drop (f .block) b) in
       let short = sdu .short in
-      let up = small-indication kind (sentUp (frameOf f b) link fcs sduOf) (omega arith) (omega (arith, sdu-long)) in
-      (omega arith, (inside .parts .blockIn, (omega arith, (sdu .inside, (omega (arith, sdu .early), omega arith)))))
+      (omega arith, (inside .parts .blockIn, (omega arith, (sdu .inside, (omega (arith, sdu .early), room)))))
 
--- What was written is what a PDU sends up.
-pub wrote-up :
-    (f : Frame) (sdu : List ℕ) {p q : Pdu} {vs out m : List ℕ} {r : ℕ}
-    → p ≡ q
-    → allBytes (upward f q sdu) ≡ vs
-    → Wrote out 0 vs m r
-    → Wrote out 0 (allBytes (upward f p sdu)) m r
-wrote-up f sdu e h w = same-bytes (sym (ap (λ (x : Pdu). allBytes (upward f x sdu)) e ∙ h)) w
+  -- How much room what goes up takes at most.
+  pub up-most : (p : Pdu) → frameRange f ≡ true → length (allBytes (upward (frameOf f b) p sduOf)) ≤ mostUp
+  unfolding frameOf
+  up-most p h =
+      let small = frame-small f h in
+      up-size (frameOf f b) p sduOf
+      (omega (arith, length-take (f .«block_len») (drop (f .block) b)))
+      (omega (arith, sdu-long, sdu .short))
+
+-- There is room for what a PDU sends up, and what was written is that.
+module _ (f : Frame) (sdu : List ℕ) {p q : Pdu} {vs : List ℕ} (e : p ≡ q) (h : allBytes (upward f q sdu) ≡ vs) where
+  sends : allBytes (upward f p sdu) ≡ vs
+  sends = ap (λ (x : Pdu). allBytes (upward f x sdu)) e ∙ h
+
+  pub room-up : (at n : ℕ) → at + length (allBytes (upward f p sdu)) ≤ n → at + length vs ≤ n
+  room-up at n room = omega (arith, room, ap length sends)
+
+  pub wrote-up : {out m : List ℕ} {at r : ℕ} → Wrote out at vs m r → Wrote out at (allBytes (upward f p sdu)) m r
+  wrote-up w = same-bytes (sym sends) w

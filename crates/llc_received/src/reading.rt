@@ -5,7 +5,7 @@ ghost use lib.ListN.{length, take};
 ghost use Rattle.bits.specs.Bits.{bits};
 ghost use Rattle.llc_pdus.specs.Headers.{hasFcs};
 ghost use Rattle.llc_rule.specs.Received.{received};
-ghost use Rattle.llc_frames.specs.Reading.{readingOf, SduInside};
+ghost use Rattle.llc_received.specs.Reading.{readingOf, SduInside};
 use fcs::Checked;
 use fcs::check_fcs;
 use llc_pdus::Pdu;
@@ -14,16 +14,16 @@ use llc_pdus::Sdu;
 use llc_pdus::from_bitbuf;
 use llc_pdus::header_end;
 
-// What reading a frame gives.
-pub(crate) enum Reading {
-    // A PDU, and where the SDU that goes up lies.
+/// What reading a frame gives.
+pub enum Reading {
+    /// A PDU, and where the SDU that goes up lies.
     Frame(Pdu, Sdu),
-    // The number of the first question failed.
+    /// The number of the first question failed.
     Refused(u8),
 }
 
-// The FCS flag of a PDU.
-pub(crate) fn has_fcs(pdu: Pdu) -> bool
+/// The FCS flag of a PDU.
+pub fn has_fcs(pdu: Pdu) -> bool
     ensures { λ r. ⌜ r ≡ hasFcs pdu ⌝ }
 {
     match pdu {
@@ -38,9 +38,9 @@ pub(crate) fn has_fcs(pdu: Pdu) -> bool
     }
 }
 
-// The PDU of the first bits of the lent bytes, and where its SDU lies. The check is lent the bytes from the header's last byte
-// onwards, and runs over all bits behind the header.
-pub(crate) fn read(frame: &[u8], len: usize) -> Reading
+/// The PDU of the first bits of the lent bytes, and where its SDU lies. The check is lent the bytes from the header's last byte
+/// onwards, and runs over all bits behind the header.
+pub fn read(frame: &[u8], len: usize) -> Reading
     requires { ⌜ len ≤ 8 * length (now frame) ⌝ }
     ensures { λ r. ⌜ readingOf r (take len (bits (now (frame .entry)))) ≡ received (take len (bits (now (frame .entry)))) ⌝ }
     ensures { λ r. ⌜ SduInside r len ⌝ }

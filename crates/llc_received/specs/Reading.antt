@@ -7,7 +7,7 @@ use Rattle.questions.specs.Outcome.{Outcome, accepted, refused}
 use Rattle.llc_pdus.specs.Sdus.{sduAt}
 use Rattle.llc_pdus.specs.declared.Sdu.{Sdu}
 use Rattle.llc_rule.specs.Received.{Received}
-use Rattle.llc_frames.specs.declared.reading.Reading.{Reading}
+use Rattle.llc_received.specs.declared.reading.Reading.{Reading}
 
 -- The answer about the bits of a frame.
 abbrev pub readingOf : Reading → List ℕ → Outcome Received

@@ -1,8 +1,8 @@
 use mathlib.Core.Path.{sym, ap}
 use Rattle.llc_rule.specs.Received.{nsOf, nrOf}
 use borrow.Author.Needs.{needs}
-use Rattle.llc_frames.proofs.frames.seq_numbers.Statement.{statement}
-use Rattle.llc_frames.proofs.frames.seq_numbers.Tie as tie
+use Rattle.llc_received.proofs.numbers.seq_numbers.Statement.{statement}
+use Rattle.llc_received.proofs.numbers.seq_numbers.Tie as tie
 
 enum-known-pdu : tie.Need-enum-known-pdu
 enum-known-pdu c = search needs

@@ -9,10 +9,10 @@ use Rattle.bits.specs.Bits.{bits}
 use Rattle.fcs.specs.Answers as Fcs
 use Rattle.llc_pdus.specs.Answers.{answered}
 use Rattle.llc_pdus.specs.declared.HeaderEnd.{HeaderEnd}
-use Rattle.llc_frames.proofs.Apart.{Apart, apart, checkBehind, ends-inside, unchecked, right, wrong, inside-bytes, refused-so}
-use Rattle.llc_frames.proofs.Upward.{lent}
-use Rattle.llc_frames.proofs.reading.read.Statement.{statement}
-use Rattle.llc_frames.proofs.reading.read.Tie as tie
+use Rattle.llc_received.proofs.Apart.{Apart, apart, checkBehind, ends-inside, unchecked, right, wrong, inside-bytes, refused-so}
+use Rattle.llc_received.proofs.SentUp.{lent}
+use Rattle.llc_received.proofs.reading.read.Statement.{statement}
+use Rattle.llc_received.proofs.reading.read.Tie as tie
 
 from-bitbuf-requires : tie.Need-from-bitbuf-requires
 from-bitbuf-requires c κs = search needs
