@@ -5,15 +5,15 @@ use mathlib.Core.Bool.{true}
 use mathlib.Core.List.{List, [], _∷_}
 use lib.Dec.{eqb}
 use lib.ListN.{drop, length}
+use Rattle.lists.specs.Lists.{all, All}
 use Rattle.llc_rule.specs.Limits.{outputBytes}
-use Rattle.llc_rule.specs.Lists.{all}
 use Rattle.llc_rule.specs.Claim.{Claims}
 use Rattle.llc_rule.specs.Seen.{SeesTheSame, ruled, unhindered}
 use Rattle.llc_rule.specs.Sendings.{AtMostFour, sendings}
 use Rattle.llc_rule.specs.Link.{Link, new}
 use Rattle.llc_rule.specs.Runs.{Exchange, after, given, left, run}
 use Rattle.llc_rule.specs.Past.{holdersAfter}
-use Rattle.llc_rule.specs.Sound.{All, Sound, Within}
+use Rattle.llc_rule.specs.Sound.{Sound, Within}
 use Rattle.llc_rule.specs.Records.{Indication, Record, Reply, Sent, allBytes, bytes, indicationBytes, kind, replyBytes, sentBytes}
 use Rattle.llc_rule.specs.Sizes.{Fits, Small}
 use Rattle.llc_rule.specs.Step.{step}

@@ -6,7 +6,7 @@ use mathlib.Core.List.{List, [], _∷_, map}
 use mathlib.Core.Option.{some}
 use lib.Dec.{eqb}
 use lib.ListN.{drop, length}
-use Rattle.llc_rule.specs.Lists.{all}
+use Rattle.lists.specs.Lists.{all}
 use Rattle.bits.specs.Bits.{AllBytes, bits}
 use Rattle.llc_rule.specs.Calls.{Request}
 use Rattle.llc_rule.specs.Seen.{SeesItsOwnPast, SeesTheSame, calls, ruleAfter, ruleSights, ruled, unhindered}
@@ -15,12 +15,12 @@ use Rattle.llc_rule.specs.Past.{heldBy, holdersAfter, past, sight, strays, take
 use Rattle.llc_rule.specs.Rule.{atFirst}
 use Rattle.llc_rule.proofs.Applied.{secondRequest}
 use Rattle.llc_rule.proofs.Instance.{hasKind, hasNumber, second}
-use Rattle.llc_runs.specs.Claim.{Claim, receiptsAfter}
-use Rattle.llc.specs.Determined.{Left, NoLeavesAll, OneAnswer}
-use Rattle.llc.specs.Entry.{callOf}
 use Rattle.llc_state.specs.View.{linkIn}
 use Rattle.llc_state.specs.declared.State.{State}
 use Rattle.llc_steps.specs.Answers.{effect}
+use Rattle.llc.specs.Determined.{Left, NoLeavesAll, OneAnswer}
+use Rattle.llc.specs.Entry.{callOf}
+use Rattle.llc_runs.specs.Claim.{Claim, receiptsAfter}
 use Rattle.llc_runs.specs.Heard.{heard}
 use Rattle.llc_runs.specs.Runs.{Lent, after, begin, exchange, left, run}
 use Rattle.llc_runs.proofs.Applied.{askedAt}

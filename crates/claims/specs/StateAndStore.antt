@@ -5,13 +5,13 @@ use mathlib.Core.Bool.{false, true}
 use mathlib.Core.List.{List}
 use lib.Dec.{eqb, ltb}
 use lib.ListN.{length, take}
+use Rattle.lists.specs.Lists.{All}
 use Rattle.bits.specs.Bits.{part, splice}
 use Rattle.tdma_time.specs.Slots.{valid}
 use Rattle.tdma_time.specs.declared.TdmaTime.{TdmaTime}
 use Rattle.llc_rule.specs.Limits.{placeBits, storeBytes, storePlaces}
 use Rattle.llc_rule.specs.Link.{new, startedWith, withTime}
 use Rattle.llc_rule.specs.Step.{step}
-use Rattle.llc_rule.specs.Sound.{All}
 use Rattle.llc_state.specs.View.{frameIn, linkIn, placeBit}
 use Rattle.llc_state.specs.States.{atTime, newState, startedState}
 use Rattle.llc_state.specs.InUse.{used}

@@ -4,13 +4,13 @@ use mathlib.Core.Path.{_≡_}
 use mathlib.Core.List.{List, map, _++_}
 use mathlib.Core.Option.{some}
 use lib.ListN.{drop, length, take}
+use Rattle.lists.specs.Lists.{All}
+use Rattle.lists.specs.Writes.{Wrote}
 use Rattle.llc_rule.specs.Records.{Record, allBytes, bytes}
 use Rattle.llc_rule.specs.Sizes.{Fits}
-use Rattle.llc_rule.specs.Sound.{All}
 use Rattle.hex_lines.specs.Fed.{Fed}
 use Rattle.hex_lines.specs.Lines.{Bytes, callIn, hexOf, linesOf, mostBytes}
 use Rattle.hex_lines.specs.Gathering.{behind, calls, finishedOf, fresh, said, scan}
-use Rattle.hex_lines.specs.Wrote.{Wrote}
 use Rattle.hex_lines.specs.declared.Line.{Line}
 use Rattle.record_lines.specs.Split.{inLines, recordLines}
 

@@ -6,12 +6,12 @@ use mathlib.Core.Bool.{true}
 use mathlib.Core.Option.{Option, none, some, Option·getD}
 use borrow.Author.Tests.{leb-true, ltb-true, ltb-false, le-leb, lt-leb}
 use lib.Dec.{leb, ltb}
+use Rattle.lists.proofs.Choices.{by-choice, both}
 use Rattle.hex_lines.specs.Lines.{among, digit, hexDigit}
-use Rattle.hex_lines.proofs.Choices.{by-choice, both}
 
 -- What a test of a range says.
 pub within : (a b c : ℕ) → among a b c ≡ true → (a ≤ c) × (c ≤ b)
-within a b c h = let t = both (leb a c) (leb c b) h in (leb-true a c (t .0), leb-true c b (t .1))
+within a b c h = let t = both {x = leb a c} {y = leb c b} h in (leb-true a c (t .0), leb-true c b (t .1))
 
 -- A value, if there is one, is below 16.
 abbrev pub Below : Option ℕ → Type 0

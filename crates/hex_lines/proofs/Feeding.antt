@@ -9,12 +9,12 @@ use borrow.Author.Tests.{eqb-true, eqb-false, eq-eqb, ne-eqb, ltb-true, ltb-fals
 use lib.Dec.{leb, ltb}
 use lib.ListN.{length, getD, take, length-append, length-set}
 use lib.Seq.{take-set-le, take-suc-set, getD-set-same}
+use Rattle.lists.proofs.Choices.{by-test, by-choice, neither}
 use Rattle.hex_lines.specs.Lines.{most, mostBytes, digit, joined, bytesOf, callIn}
 use Rattle.hex_lines.specs.Gathering.{Gathered, fresh, spoiled, longer, pushed, feedValue, feedOf, begunOf, odd, finishedOf, said, callLength}
 use Rattle.hex_lines.specs.Fed.{some-in, onto, resumed, Good, Hopeless, Fed}
 use Rattle.hex_lines.specs.declared.Line.{Line}
 use Rattle.hex_lines.specs.declared.Finished.{Finished}
-use Rattle.hex_lines.proofs.Choices.{by-test, by-choice, neither}
 use Rattle.hex_lines.proofs.Digits.{Below, digit-below}
 
 -- ---- one more digit
@@ -239,8 +239,8 @@ finished-says {cs} {l} {bs} f =
     let g = f .good b in
     good-spells true (third t b (le-ltb most (l .digits) (g .few))) g))
     (λ t.
-    let u = neither (l .bad || ltb most (l .digits)) (odd (l .digits)) t in
-    even-spells (u .1) (f .good (neither (l .bad) (ltb most (l .digits)) (u .0) .0)))
+    let u = neither {x = l .bad || ltb most (l .digits)} {y = odd (l .digits)} t in
+    even-spells (u .1) (f .good (neither {x = l .bad} {y = ltb most (l .digits)} (u .0) .0)))
 
 -- A call has at most 2,048 bytes, whatever the line's state.
 pub finished-few : (l : Line) → callLength (finishedOf l) ≤ mostBytes
@@ -249,6 +249,6 @@ finished-few l =
     by-choice (λ (a : Finished). callLength a ≤ mostBytes) (l .bad || ltb most (l .digits) || odd (l .digits))
     (λ t. omega arith)
     (λ t.
-    let u = neither (l .bad || ltb most (l .digits)) (odd (l .digits)) t in
-    let w = neither (l .bad) (ltb most (l .digits)) (u .0) in
+    let u = neither {x = l .bad || ltb most (l .digits)} {y = odd (l .digits)} t in
+    let w = neither {x = l .bad} {y = ltb most (l .digits)} (u .0) in
     omega (arith, ltb-false most (l .digits) (w .1)))

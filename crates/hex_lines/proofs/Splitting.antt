@@ -7,11 +7,11 @@ use mathlib.Core.Option.{Option}
 use borrow.Author.Tests.{eqb-true}
 use lib.Dec.{eqb}
 use lib.ListN.{length}
+use Rattle.lists.proofs.Choices.{by-test}
 use Rattle.hex_lines.specs.Lines.{mostBytes, lineEnd, callIn, linesOf, NoEnd}
 use Rattle.hex_lines.specs.Gathering.{fresh, feedOf, begunOf, finishedOf, said, scan, calls, behind}
 use Rattle.hex_lines.specs.Fed.{Fed}
 use Rattle.hex_lines.specs.declared.Line.{Line}
-use Rattle.hex_lines.proofs.Choices.{by-test}
 use Rattle.hex_lines.proofs.Feeding.{begin, feed-keeps, finished-says}
 
 -- A line up to its line end, and a last line without one.

@@ -1,35 +1,17 @@
 -- Laws of what is written.
-use Prim.Native.Nat.{ℕ, suc, _+_, _*_, _-_, _/_, _%_, _≤_, _<_}
+use Prim.Native.Nat.{ℕ, _+_, _*_, _-_, _/_, _%_, _≤_, _<_}
 use native.Mathlib.Omega.{arith}
 use native.Mathlib.Numerals.{add-one}
-use mathlib.Core.Path.{_≡_, _∙_, refl, sym, ap}
+use mathlib.Core.Path.{_≡_, refl}
 use mathlib.Core.List.{List, [], _∷_, _++_}
 use borrow.Author.Tests.{lt-ltb, le-ltb}
 use lib.Dec.{ltb}
-use lib.ListN.{length, getD, set, take, drop, length-append}
-use lib.Seq.{sets, length-sets, sets-eq, take-at, drop-at, slice, length-slice, slice-empty, take-suc, drop-append-le, length-take-le}
+use lib.ListN.{length, getD, take, length-append}
+use lib.Seq.{slice, length-slice, slice-empty, take-suc, drop-append-le, length-take-le}
+use Rattle.lists.specs.Writes.{Wrote}
+use Rattle.lists.proofs.Choices.{by-choice}
+use Rattle.lists.proofs.Writes.{_⨾_, as-long, wrote-none}
 use Rattle.hex_lines.specs.Lines.{lineEnd, hexOf, decimalOf}
-use Rattle.hex_lines.specs.Wrote.{Wrote}
-use Rattle.hex_lines.proofs.Choices.{by-choice}
-
-sets-append : (vs ws l : List ℕ) (i : ℕ) → sets l i (vs ++ ws) ≡ sets (sets l i vs) (i + length vs) ws
-sets-append [] ws l i = let e : i + 0 ≡ i = omega arith in rw e
-sets-append (a ∷ vs) ws l i =
-    let e : i + suc (length vs) ≡ suc i + length vs = omega arith in
-    rw e (sets-append vs ws (set l i a) (suc i))
-
--- One write, and another behind it.
-infixl 20 _⨾_
-pub _⨾_ : {l m k vs ws : List ℕ} {i j n : ℕ} → Wrote l i vs m j → Wrote m j ws k n → Wrote l i (vs ++ ws) k n
-_⨾_ {l} {m} {k} {vs} {ws} {i} {j} {n} v w =
-    record {
-      next = omega (arith, length-append vs ws, v .next, w .next);
-      holds = w .holds ∙ rw (v .holds, v .next) (sym (sets-append vs ws l i));
-    }
-
--- A write keeps the length.
-pub wrote-length : {l vs m : List ℕ} {i j : ℕ} → Wrote l i vs m j → length m ≡ length l
-wrote-length {l} {vs} {m} {i} {j} w = ap length (w .holds) ∙ length-sets l i vs
 
 -- ---- digits
 
@@ -62,13 +44,13 @@ part-place {l} {bytes} {m} {at} {f} {i} {p} d h =
     omega (arith, d .wrote .next, length-hexOf (slice f i bytes), length-slice f i bytes h)
 
 pub part-length : {l bytes m : List ℕ} {at f i p : ℕ} → Part l bytes at f i m p → length m ≡ length l
-part-length d = wrote-length (d .wrote)
+part-length d = as-long (d .wrote)
 
 -- No digits yet, one byte more, and the line end.
 pub part-none : (l bytes : List ℕ) (at f : ℕ) → Part l bytes at f f l at
 unfolding hexOf
 part-none l bytes at f =
-    record { low = omega arith; wrote = rw (slice-empty f bytes) (record { next = omega arith; holds = refl }) }
+    record { low = omega arith; wrote = rw (slice-empty f bytes) (wrote-none l at) }
 
 pub part-more :
     {l bytes m k : List ℕ} {at f i p q : ℕ}
@@ -107,21 +89,6 @@ unfolding decimalOf
 three-digits n l h = rw (le-ltb n 10 l, le-ltb n 100 h)
 
 -- ---- for callers
-
--- What stands after a write up to its end, and behind it.
-pub wrote-shows : {l vs m : List ℕ} {i j : ℕ} → Wrote l i vs m j → j ≤ length l → take j m ≡ take i l ++ vs
-wrote-shows {l} {vs} {m} {i} {j} w h =
-    let k : j ≡ i + length vs = w .next in
-    let e : length (take i l ++ vs) ≡ j = omega (arith, length-append (take i l) vs, length-take-le i l (omega arith)) in
-    ap (take j) (w .holds ∙ sets-eq vs l i (omega arith)) ∙ take-at (take i l ++ vs) (drop (i + length vs) l) j e
-
-pub wrote-rest : {l vs m : List ℕ} {i j : ℕ} → Wrote l i vs m j → j ≤ length l → drop j m ≡ drop j l
-wrote-rest {l} {vs} {m} {i} {j} w h =
-    let k : j ≡ i + length vs = w .next in
-    let e : length (take i l ++ vs) ≡ j = omega (arith, length-append (take i l) vs, length-take-le i l (omega arith)) in
-    ap (drop j) (w .holds ∙ sets-eq vs l i (omega arith))
-    ∙ drop-at (take i l ++ vs) (drop (i + length vs) l) j e
-    ∙ ap (λ (n : ℕ). drop n l) (sym k)
 
 -- How long a line of digits is, and at most a number's line.
 pub line-length :

@@ -2,4 +2,3 @@ pub mod Lines
 pub mod Gathering
 pub mod Fed
 pub mod Reading
-pub mod Wrote

@@ -4,8 +4,8 @@ ghost use mathlib.Core.Path.{_≡_};
 ghost use mathlib.Core.List.{[], _∷_, _++_};
 ghost use lib.ListN.{length};
 ghost use lib.Seq.{slice};
+ghost use Rattle.lists.specs.Writes.{Wrote};
 ghost use Rattle.hex_lines.specs.Lines.{lineEnd, hexDigit, hexOf, decimalOf};
-ghost use Rattle.hex_lines.specs.Wrote.{Wrote};
 
 pub(crate) const LINE_END: u8 = 10;
 

@@ -9,15 +9,15 @@ use denote.Enum.Declared.{tagOf}
 use lib.Dec.{eqb, leb}
 use lib.ListN.{length, drop, length-append}
 use types.Run.{OneOf, miss}
+use Rattle.lists.proofs.Choices.{by-test, both}
+use Rattle.questions.specs.Outcome.{Outcome, accepted, refused}
 use Rattle.bits.specs.Bits.{bits}
 use Rattle.bits.proofs.Laws.{length-bits}
-use Rattle.questions.specs.Outcome.{Outcome, accepted, refused}
 use Rattle.llc_rule.specs.Limits.{outputBytes, storeBytes}
 use Rattle.llc_rule.specs.Calls.{Call, isStart, parsed}
 use Rattle.llc_rule.specs.Ranges as RuleRanges
 use Rattle.llc_rule.specs.Ranges.{isReceipt, actionInRange}
 use Rattle.llc_rule.specs.Records.{allBytes}
-use Rattle.llc_rule.proofs.Lists.{by-test, both}
 use Rattle.llc_calls.specs.Decoded.{actionOf, decoded, Inside}
 use Rattle.llc_calls.specs.Ranges.{inRangeOf}
 use Rattle.llc_calls.specs.declared.Action.{Action}

@@ -4,7 +4,7 @@ use mathlib.Core.Path.{_≡_, _∙_, sym, ap}
 use mathlib.Core.Bool.{Bool, true, false}
 use mathlib.Core.List.{[], _∷_, _++_}
 use borrow.Author.Tests.{ltb-true}
-use Rattle.llc_rule.specs.Lists.{all}
+use Rattle.lists.specs.Lists.{all}
 use Rattle.llc_rule.specs.Messages.{slotBefore}
 use Rattle.llc_calls.specs.declared.FrameCall.{FrameCall}
 use Rattle.llc_received.specs.Numbers.{numberIf, nsIn}

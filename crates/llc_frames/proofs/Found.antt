@@ -4,12 +4,12 @@ use native.Mathlib.Omega.{arith}
 use mathlib.Core.Path.{_≡_, _∙_, refl, sym, ap}
 use mathlib.Core.Bool.{Bool, true, false, not, _&&_, _||_}
 use mathlib.Core.List.{List, [], _∷_, _++_}
-use lib.Dec.{eqb}
 use lib.ListN.{length, getD, take, drop, drop-of-length-le, length-take}
 use lib.Seq.{drop-cons, getD-take, length-take-le}
+use Rattle.lists.specs.Lists.{all, Found, nothing, first, behind, find}
+use Rattle.lists.specs.Arrays.{position, without, fronted}
+use Rattle.lists.proofs.Choices.{by-test, both, if-true, if-false}
 use Rattle.tx_receipt.specs.Marks.{acknowledged, allowed}
-use Rattle.llc_rule.specs.Lists.{all, Found, nothing, first, behind, find}
-use Rattle.llc_rule.proofs.Lists.{by-test, both, if-true, if-false}
 use Rattle.llc_state.specs.Ranges.{messageInRange}
 use Rattle.llc_state.specs.Receipts.{receiptOf, placeOf, markReceipt}
 use Rattle.llc_state.specs.declared.Entry.{Entry}
@@ -17,7 +17,6 @@ use Rattle.llc_state.specs.declared.ReceiptPlace.{ReceiptPlace}
 use Rattle.llc_state.specs.declared.State.{State}
 use Rattle.llc_state.proofs.InRange.{entry-tells, message-tells}
 use Rattle.llc_steps.specs.Calls.{fits, finishable, answeredBy}
-use Rattle.llc_steps.specs.Queues.{position, without, fronted}
 use Rattle.llc_steps.specs.States.{messagesOf, withMessages}
 use Rattle.llc_frames.specs.Answered.{foundIn, foundAt}
 

@@ -9,23 +9,24 @@ use mathlib.Core.Option.{Option, none, some}
 use borrow.Author.Tests.{leb-true, leb-false, lt-ltb, le-ltb}
 use lib.Dec.{leb}
 use lib.ListN.{length, take, drop, length-take, length-drop}
+use Rattle.lists.specs.Lists.{Found}
+use Rattle.lists.specs.Arrays.{position}
+use Rattle.lists.specs.Writes.{Wrote}
+use Rattle.lists.proofs.Writes.{write-is}
+use Rattle.lists.proofs.Choices.{both}
+use Rattle.questions.specs.Outcome.{Outcome, accepted, refused, ask}
 use Rattle.bits.specs.Bits.{bits, part}
 use Rattle.bits.proofs.Laws.{length-bits, part-take}
-use Rattle.questions.specs.Outcome.{Outcome, accepted, refused, ask}
 use Rattle.llc_pdus.specs.Sdus.{sduAt, holding, handed, Part, numbered, handedBack}
 use Rattle.llc_pdus.specs.declared.Pdu.{Pdu}
 use Rattle.llc_pdus.specs.declared.Sdu.{Sdu}
 use Rattle.llc_pdus.proofs.Holding.{held-is, handed-in}
 use Rattle.llc_rule.specs.Limits.{outputBytes}
-use Rattle.llc_rule.specs.Lists.{Found}
 use Rattle.llc_rule.specs.Received.{Received, received, nsOf, nrOf, upward}
 use Rattle.llc_rule.specs.Records.{Record, allBytes}
-use Rattle.llc_rule.proofs.Lists.{both}
 use Rattle.llc_calls.specs.Decoded.{frameOf, FrameInside}
 use Rattle.llc_calls.specs.Ranges.{frameRange}
 use Rattle.llc_calls.specs.declared.FrameCall.{FrameCall}
-use Rattle.llc_records.specs.Wrote.{Wrote}
-use Rattle.llc_records.proofs.Wrote.{write-is}
 use Rattle.llc_received.specs.Numbers.{numberIf, nsIn, nrIn}
 use Rattle.llc_received.specs.Reading.{readingOf, SduIn, SduInside}
 use Rattle.llc_received.specs.Upward.{SduLent}
@@ -37,9 +38,9 @@ use Rattle.llc_state.specs.declared.ScheduledOutAck.{ScheduledOutAck}
 use Rattle.llc_state.specs.declared.State.{State}
 use Rattle.llc_steps.specs.Answers.{effect, answer, laidOut, delivered, WithAnyStore}
 use Rattle.llc_steps.specs.Calls.{ackRoom, scheduled, expected, finishable, mayFinish, answeredBy, answered, onReceived}
-use Rattle.llc_steps.specs.Queues.{position, expectedOn}
 use Rattle.llc_steps.specs.States.{messagesOf, withAcks, Kept, kept}
 use Rattle.llc_steps.specs.declared.Answer.{Answer}
+use Rattle.llc_queues.specs.Queues.{expectedOn}
 use Rattle.llc_frames.specs.Answered.{foundAt}
 use Rattle.llc_frames.specs.Numbers.{dueTo}
 use Rattle.llc_frames.proofs.Found.{found-is}

@@ -2,8 +2,8 @@
 use Prim.Native.Nat.{ℕ}
 use mathlib.Core.List.{List, [], _∷_}
 use lib.ListN.{drop}
-use Rattle.llc_rule.specs.Lists.{Found, nothing, first}
-use Rattle.llc_steps.specs.Queues.{without}
+use Rattle.lists.specs.Lists.{Found, nothing, first}
+use Rattle.lists.specs.Arrays.{without}
 
 -- What stands in a place of a queue, if anything does, and the others.
 abbrev pub foundIn : {A : Type 0} → List A → List A → Found A

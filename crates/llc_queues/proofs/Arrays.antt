@@ -5,17 +5,15 @@ use mathlib.Core.Path.{_≡_, refl, sym, _∙_, ap, ap₂}
 use mathlib.Core.List.{List, [], _∷_, _++_}
 use lib.ListN.{length, take, drop, set, length-set, take-append-drop, drop-of-length-le}
 use lib.Seq.{length-take-le, take-take, set-split, take-set-lt, drop-set-lt}
+use Rattle.lists.specs.Arrays.{laid, without, placed}
+use Rattle.lists.proofs.Arrays.{laid-more, length-last, laid-last, without-none}
 use Rattle.llc_state.specs.declared.Entry.{Entry}
 use Rattle.llc_state.specs.declared.ScheduledOutAck.{ScheduledOutAck}
 use Rattle.llc_state.specs.declared.LinkSendSeq.{LinkSendSeq}
 use Rattle.llc_state.specs.declared.State.{State}
 use Rattle.llc_state.specs.States.{noEntry, noAck, noRow}
-use Rattle.llc_steps.specs.Arrays.{laid}
-use Rattle.llc_steps.specs.Queues.{without, placed}
 use Rattle.llc_steps.specs.States.{acksOf, putMessages, putUdata, putAcks, putRows, withAcks}
-use Rattle.llc_steps.proofs.Laid.{laid-more, length-last, laid-last}
 use Rattle.llc_steps.proofs.Updates.{same-acks}
-use Rattle.llc_queues.proofs.Without.{without-none}
 
 -- How many are in use, the array, the state with another array and number in use, and what these have to do with each other.
 pub record Array (A : Type 0) : Type 0 where

@@ -9,13 +9,14 @@ use borrow.Author.Tests.{eqb-true, eqb-false, eq-eqb, ne-eqb, lt-ltb, le-ltb}
 use lib.Dec.{eqb}
 use lib.ListN.{length, getD, take, set, replicate, length-set, length-replicate, getD-replicate}
 use lib.Seq.{take-suc, take-all}
+use Rattle.lists.specs.Lists.{any, among}
+use Rattle.lists.specs.Arrays.{position}
+use Rattle.lists.proofs.Lists.{any-append, getD-set}
+use Rattle.lists.proofs.Arrays.{position-any}
+use Rattle.lists.proofs.Choices.{by-test}
 use Rattle.llc_rule.specs.Limits.{storePlaces}
-use Rattle.llc_rule.specs.Lists.{any, among}
-use Rattle.llc_rule.proofs.Lists.{by-test, any-append, getD-set}
 use Rattle.llc_state.specs.declared.Entry.{Entry}
 use Rattle.llc_steps.specs.Places.{firstFree}
-use Rattle.llc_steps.specs.Queues.{position}
-use Rattle.llc_queues.proofs.Search.{position-any}
 
 -- The places that are in a list are marked, of those of the store.
 pub record Marked (us : List ℕ) (used : List Bool) : Type 0 where

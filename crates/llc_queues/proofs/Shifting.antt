@@ -5,11 +5,9 @@ use mathlib.Core.Path.{_≡_, sym, _∙_, ap, ap₂}
 use mathlib.Core.List.{List, _∷_, _++_}
 use lib.ListN.{length, take, drop, getD, set, replicate, take-append-drop, List·getD-append}
 use lib.Seq.{length-take-le, take-suc, drop-cons, append-snoc, getD-append-add, getD-take, getD-drop, set-at, take-at}
+use Rattle.lists.specs.Arrays.{laid, without, fronted}
+use Rattle.lists.proofs.Arrays.{laid-fewer, laid-more, length-without, take-without, drop-without, getD-before, getD-behind}
 use Rattle.llc_state.specs.declared.State.{State}
-use Rattle.llc_steps.specs.Arrays.{laid}
-use Rattle.llc_steps.specs.Queues.{without, fronted}
-use Rattle.llc_steps.proofs.Laid.{laid-fewer, laid-more}
-use Rattle.llc_queues.proofs.Without.{length-without, take-without, drop-without, getD-before, getD-behind}
 use Rattle.llc_queues.proofs.Arrays.{Array, used, holding}
 
 module _ {A : Type 0} where

@@ -2,10 +2,11 @@
 ghost use Prim.Native.Nat.{_≤_};
 ghost use mathlib.Core.Path.{_≡_};
 ghost use lib.ListN.{take};
+ghost use Rattle.lists.specs.Arrays.{position};
 ghost use Rattle.llc_steps.specs.States.{messagesOf};
-ghost use Rattle.llc_steps.specs.Queues.{position, ackOn, rowOf, expectedOn};
 ghost use Rattle.llc_steps.specs.Places.{freePlace};
 ghost use Rattle.llc_steps.specs.Calls.{held, waits as waitsIn};
+ghost use Rattle.llc_queues.specs.Queues.{ackOn, rowOf, expectedOn};
 use llc_state::LinkSendSeq;
 use llc_state::STORE_PLACES;
 use llc_state::ScheduledOutAck;

@@ -2,8 +2,8 @@
 ghost use Prim.Native.Nat.{_≤_, _<_};
 ghost use mathlib.Core.Path.{_≡_};
 ghost use mathlib.Core.List.{[], _∷_, _++_};
+ghost use Rattle.lists.specs.Arrays.{without, fronted, placed};
 ghost use Rattle.llc_steps.specs.States.{messagesOf, udataOf, acksOf, rowsOf, withMessages, withUdata, withAcks, withRows};
-ghost use Rattle.llc_steps.specs.Queues.{without, fronted, placed};
 use llc_state::Entry;
 use llc_state::LinkSendSeq;
 use llc_state::ScheduledOutAck;

@@ -5,6 +5,7 @@ use mathlib.Core.Bool.{Bool, true, false, not, _&&_}
 use mathlib.Core.List.{List, []}
 use borrow.Author.Tests.{eq-eqb, ne-eqb}
 use lib.ListN.{set}
+use Rattle.lists.proofs.Choices.{and-true, and-false}
 use Rattle.questions.specs.Outcome.{Outcome, accepted, refused}
 use Rattle.tx_receipt.specs.States.{is, final}
 use Rattle.tx_receipt.specs.Marks as Marks
@@ -12,7 +13,6 @@ use Rattle.tx_receipt.specs.Marks.{Mark}
 use Rattle.tx_receipt.specs.declared.TxState.the-variants.{Pending}
 use Rattle.llc_rule.specs.Messages.{markOf}
 use Rattle.llc_rule.specs.Records.{allBytes}
-use Rattle.llc_rule.proofs.Lists.{and-true, and-false}
 use Rattle.llc_state.specs.Receipts.{receiptOf, placeOf, mark, withPlaces}
 use Rattle.llc_state.specs.States.{noReceipt}
 use Rattle.llc_state.specs.declared.State.{State}

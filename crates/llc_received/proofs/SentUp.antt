@@ -8,6 +8,9 @@ use borrow.Author.Tests.{leb-true}
 use lib.Dec.{leb}
 use lib.ListN.{length, take, drop, length-take, length-drop}
 use lib.Seq.{take-all}
+use Rattle.lists.specs.Writes.{Wrote}
+use Rattle.lists.proofs.Writes.{same-bytes}
+use Rattle.lists.proofs.Choices.{both}
 use Rattle.bits.specs.Bits.{bits, part}
 use Rattle.bits.proofs.Laws.{length-bits, length-part}
 use Rattle.llc_pdus.specs.declared.Pdu.{Pdu}
@@ -17,14 +20,11 @@ use Rattle.llc_rule.specs.Calls.{Frame}
 use Rattle.llc_rule.specs.Ranges.{isType}
 use Rattle.llc_rule.specs.Received.{upward}
 use Rattle.llc_rule.specs.Records.{bytes, allBytes, indicationBytes}
-use Rattle.llc_rule.proofs.Lists.{both}
 use Rattle.llc_rule.proofs.Records.{mostUp, small-indication}
 use Rattle.llc_calls.specs.Decoded.{frameOf, FrameInside}
 use Rattle.llc_calls.specs.Ranges.{frameRange}
 use Rattle.llc_calls.specs.declared.FrameCall.{FrameCall}
-use Rattle.llc_records.specs.Wrote.{Wrote}
 use Rattle.llc_records.specs.Records as Records
-use Rattle.llc_records.proofs.Wrote.{same-bytes}
 use Rattle.llc_received.specs.Upward.{sentUp, SduLent}
 
 -- What each PDU sends up.

@@ -8,6 +8,8 @@ use mathlib.Core.List.{List, [], _∷_, _++_, append-assoc}
 use lib.ListN.{length, take, drop, getD, replicate, length-append, length-drop, length-replicate, replicate-append-replicate}
 use lib.Pow.{pow-add, shl-exact, shl-lt}
 use lib.Seq.{drop-cons, drop-drop, drop-at, take-at, take-append-le, drop-append-le, length-take-le, getD-drop}
+use Rattle.lists.specs.Writes.{Wrote}
+use Rattle.lists.proofs.Writes.{write-is}
 use Rattle.bits.specs.Bits.{toBits, value, bits, part, splice, AllBits}
 use Rattle.bits.proofs.Laws.{length-toBits, value-toBits, length-bits, length-part, part-append, value-append, take-bits, drop-bits, value-below}
 use Rattle.llc_pdus.specs.declared.Pdu.the-variants.{BlAck}
@@ -16,8 +18,6 @@ use Rattle.llc_rule.specs.Calls.{toBytes}
 use Rattle.llc_rule.specs.Records.{field, number, packed, pack, counted, countedIfAny, masked}
 use Rattle.llc_rule.proofs.Records.{length-toBytes, length-packed}
 use Rattle.llc_records.specs.Records.{maskIf}
-use Rattle.llc_records.specs.Wrote.{Wrote}
-use Rattle.llc_records.proofs.Wrote.{write-is}
 
 -- Numbers -----------------------------------------------------------------------------------------------------------------
 

@@ -3,13 +3,13 @@ ghost use Prim.Native.Nat.{_+_, _*_, _/_, _^_, _≤_, _<_};
 ghost use mathlib.Core.Bool.{false};
 ghost use mathlib.Core.List.{[], _∷_};
 ghost use lib.ListN.{length};
+ghost use Rattle.lists.specs.Writes.{Wrote};
 ghost use Rattle.bits.specs.Bits.{bits, part};
 ghost use Rattle.llc_pdus.specs.Headers.{bit, header};
 ghost use Rattle.llc_pdus.specs.declared.Pdu.{Pdu};
 ghost use Rattle.llc_rule.specs.Calls.{toBytes};
 ghost use Rattle.llc_rule.specs.Records.{field, number, packed, pack, counted, countedIfAny, masked};
 ghost use Rattle.llc_records.specs.Records.{maskIf};
-ghost use Rattle.llc_records.specs.Wrote.{Wrote};
 use bit_fields::copy_bytes;
 use bit_fields::get;
 

@@ -1,10 +1,10 @@
 // The records, put together from their fields. Each function answers the place behind what it wrote.
 ghost use Prim.Native.Nat.{_+_, _*_, _/_, _^_, _≤_, _<_};
 ghost use lib.ListN.{length};
+ghost use Rattle.lists.specs.Writes.{Wrote};
 ghost use Rattle.bits.specs.Bits.{bits, part};
 ghost use Rattle.llc_rule.specs.Records.{masked, countedIfAny, sentBytes, replyBytes, indicationBytes};
 ghost use Rattle.llc_records.specs.Records.{maskIf, sent, reply, indication, headFields, endFields, routeFields, stealFields, downFields, upFields};
-ghost use Rattle.llc_records.specs.Wrote.{Wrote};
 use crate::IndicationRecord;
 use crate::ReplyRecord;
 use crate::SentRecord;

@@ -1,20 +1,22 @@
 -- The questions of a request in the code's order: what is answered on each way.
-use Prim.Native.Nat.{ℕ, suc, _≤_, _<_}
+use Prim.Native.Nat.{ℕ, _≤_, _<_}
 use native.Mathlib.Omega.{arith}
 use mathlib.Core.Path.{_≡_, _∙_, sym, ap}
 use mathlib.Core.Bool.{Bool, true, false}
-use mathlib.Core.List.{List, append-nil}
+use mathlib.Core.List.{List}
 use borrow.Author.Tests.{lt-ltb, le-ltb, ltb-true, ltb-false}
 use lib.Dec.{ltb}
-use lib.ListN.{length, take, getD, length-take, drop-of-length-le}
-use lib.Seq.{take-all, length-take-le, getD-take}
+use lib.ListN.{length, getD, length-take}
+use lib.Seq.{length-take-le, getD-take}
+use Rattle.lists.specs.Lists.{Found}
+use Rattle.lists.specs.Arrays.{position, without}
+use Rattle.lists.proofs.Arrays.{position-most, position-any, found-at, found-none, without-none}
+use Rattle.lists.proofs.Choices.{by-test}
 use Rattle.questions.specs.Outcome.{Outcome, accepted, refused}
 use Rattle.llc_pdus.specs.declared.Pdu.the-variants.{BlUdata, BlAck}
-use Rattle.llc_rule.specs.Lists.{Found}
 use Rattle.llc_rule.specs.Calls.{Request}
 use Rattle.llc_rule.specs.Ranges.{steals, wantsFcs}
 use Rattle.llc_rule.specs.Step.{onAcknowledgedPath}
-use Rattle.llc_rule.proofs.Lists.{by-test}
 use Rattle.llc_state.specs.Ranges.{inRange}
 use Rattle.llc_state.specs.States.{noAck}
 use Rattle.llc_state.specs.Receipts.{placeOf}
@@ -24,10 +26,9 @@ use Rattle.llc_state.proofs.InRange.{range-tells}
 use Rattle.llc_state.proofs.Lengths.{Lengths}
 use Rattle.llc_steps.specs.Answers.{effect, answer, delivered, WithAnyOut}
 use Rattle.llc_steps.specs.Calls.{carrierFor, ackFor, withAcknowledged, withUnacknowledged, withStolen, rowFor, onData, onUnitdata}
-use Rattle.llc_steps.specs.Queues.{position, without, ackOn, rowOf}
 use Rattle.llc_steps.specs.States.{acksOf, rowsOf, Kept}
 use Rattle.llc_steps.specs.declared.Answer.{Answer}
-use Rattle.llc_queues.proofs.Search.{position-most, position-any, found-at, found-none}
+use Rattle.llc_queues.specs.Queues.{ackOn, rowOf}
 
 -- An effect by the outcome's own name, and the effect of a no.
 pub as-asked :
@@ -43,12 +44,6 @@ pub refuses :
     → x ≡ answer n s 0
     → WithAnyOut x b s b o
 refuses n b e f = as-asked e (record { each = λ out. ap (λ (a : Answer). effect a b out) f })
-
--- Taking out nothing.
-without-none : {A : Type 0} (n : ℕ) (l : List A) → without n (take n l) ≡ take n l
-without-none n l =
-    let few : length (take n l) ≤ n = omega (arith, length-take n l) in
-    rw (take-all n (take n l) few, drop-of-length-le (take n l) {i = suc n} (omega arith)) (append-nil (take n l))
 
 -- Question 7: a row is there or can be added where the search for it ends below 256.
 row-for :
@@ -77,7 +72,7 @@ unused :
     ≡ withUnacknowledged r link (BlUdata false) (acksOf s) s b
 unused r s b link =
     ap (λ (ds : List ScheduledOutAck). withUnacknowledged r link (BlUdata false) ds s b)
-    (without-none (s .«n_acks») (s .«scheduled_out_acks»))
+    (without-none (s .«n_acks») (acksOf s) (omega (arith, length-take (s .«n_acks») (s .«scheduled_out_acks»))))
 
 module _ (r : Request) (s : State) (b : List ℕ) where
   abbrev taken : Bool

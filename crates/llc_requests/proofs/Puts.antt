@@ -6,19 +6,21 @@ use mathlib.Core.Bool.{Bool, true, false, cond, not, _&&_, _||_}
 use mathlib.Core.List.{List, [], _∷_, _++_}
 use borrow.Author.Tests.{leb-true, ltb-true, ltb-false}
 use lib.Dec.{eqb, leb, ltb}
-use lib.ListN.{length, take, getD, set, length-take, List·getD-eq-default}
+use lib.ListN.{length, getD, set, length-take, List·getD-eq-default}
 use lib.Seq.{length-take-le}
-use Rattle.bits.specs.Bits.{splice}
+use Rattle.lists.specs.Lists.{find, others}
+use Rattle.lists.specs.Arrays.{position, without, placed}
+use Rattle.lists.proofs.Arrays.{found-at, found-none, others-without}
+use Rattle.lists.proofs.Choices.{both, by-test}
 use Rattle.questions.specs.Outcome.{accepted}
+use Rattle.bits.specs.Bits.{splice}
 use Rattle.llc_pdus.specs.declared.Pdu.{Pdu}
 use Rattle.llc_pdus.specs.declared.Pdu.the-variants.{BlAdata, BlData}
 use Rattle.llc_pdus.specs.Writes.{longest, frameBits}
 use Rattle.llc_rule.specs.Limits.{storePlaces}
-use Rattle.llc_rule.specs.Lists.{find, others}
 use Rattle.llc_rule.specs.Calls.{Request}
 use Rattle.llc_rule.specs.Ranges.{isType, isReceipt, wantsFcs}
 use Rattle.llc_rule.specs.Records.{allBytes}
-use Rattle.llc_rule.proofs.Lists.{both, by-test}
 use Rattle.llc_calls.specs.Ranges.{requestRange}
 use Rattle.llc_calls.specs.declared.RequestCall.{RequestCall}
 use Rattle.llc_state.specs.Ranges.{inRange}
@@ -35,11 +37,11 @@ use Rattle.llc_state.proofs.Lengths.{Lengths}
 use Rattle.llc_steps.specs.Answers.{effect, answer, laidOut, WithAnyOut}
 use Rattle.llc_steps.specs.Calls.{entryOf, carrierFor, ackFor, seqOf, withSeq, dataPdu, withAcknowledged, withUnacknowledged}
 use Rattle.llc_steps.specs.Places.{freePlace}
-use Rattle.llc_steps.specs.Queues.{position, without, placed, ackOn, rowOf}
 use Rattle.llc_steps.specs.States.{messagesOf, udataOf, acksOf, rowsOf, withMessages, withUdata, withAcks, withRows, Kept}
 use Rattle.llc_steps.specs.declared.Answer.{Answer}
 use Rattle.llc_steps.proofs.Places.{free-place}
-use Rattle.llc_queues.proofs.Search.{position-most, found-at, found-none, others-without, seq-at, seq-none, with-seq}
+use Rattle.llc_queues.specs.Queues.{ackOn, rowOf}
+use Rattle.llc_queues.proofs.Search.{seq-at, seq-none, with-seq}
 
 -- What question 5 tells of a request.
 pub record Allowed (q : RequestCall) : Type 0 where
@@ -66,10 +68,6 @@ allowed q h =
       block = leb-true (q .«block_len») 64 (block .1);
       sdu = leb-true (q .«sdu_len») longest (sdu .1);
     }
-
--- A search in the first n ends at most there.
-pub position-within : {A : Type 0} (p : A → Bool) (n : ℕ) (l : List A) → position p (take n l) ≤ n
-position-within p n l = omega (arith, position-most p (take n l), length-take n l)
 
 -- A message has a place in the store where a queue has room.
 pub place-below : (s : State) → s .«n_messages» + s .«n_udata» < storePlaces → freePlace s < storePlaces

@@ -4,12 +4,12 @@ use mathlib.Core.Path.{_≡_, _∙_, refl, ap}
 use mathlib.Core.List.{List}
 use mathlib.Core.Option.{some, Option·some-injective, Option·none-ne-some}
 use borrow.Author.Tests.{eq-eqb}
+use Rattle.lists.proofs.Choices.{if-true}
 use Rattle.questions.specs.Outcome.{Outcome, accepted, refused}
 use Rattle.llc_rule.specs.Calls.{Call, start, tickStart, tickEnd, request, frame, byReceipt, report, release, Request, parsed}
 use Rattle.llc_rule.specs.Runs.{Exchange}
 use Rattle.llc_rule.specs.Past.{Whom, everybody, address, holderOf, Holding, empties, takes, frees, stays, aboutRead, aboutCall, about, Holders, heldAfter, doneTo, holders}
 use Rattle.llc_rule.specs.Sendings.{taker, requestOf}
-use Rattle.llc_rule.proofs.Lists.{if-true}
 
 -- What an accepted call is about.
 pub about-accepted : (bytes : List ℕ) (c : Call) → parsed bytes ≡ accepted c → about bytes ≡ aboutCall c

@@ -5,8 +5,9 @@ use mathlib.Core.Path.{_≡_, _∙_, refl, sym, ap, ap₂}
 use mathlib.Core.Bool.{true, false, cond, not, _&&_, _||_, false≢true}
 use mathlib.Core.List.{List, [], _∷_, _++_, map, map-append, append-nil}
 use mathlib.Core.Option.{Option, none, some}
+use Rattle.lists.specs.Lists.{keep, all, among}
+use Rattle.lists.proofs.Choices.{by-test, either, both}
 use Rattle.questions.specs.Outcome.{Outcome, accepted, refused, number}
-use Rattle.llc_rule.specs.Lists.{keep, all, among}
 use Rattle.llc_rule.specs.Calls.{Call, isStart, parsed}
 use Rattle.llc_rule.specs.Ranges.{inRange}
 use Rattle.llc_rule.specs.Records.{Record}
@@ -19,7 +20,6 @@ use Rattle.llc_rule.specs.Runs.{left, given, Exchange, exchange, run, af
 use Rattle.llc_rule.specs.Past.{aboutRead, aboutCall, about, Holders, heldAfter, doneTo, holders, whoseOf, whose, concerns, leftOut, inPast, History, nothingYet, andThen, history, holdersAfter, past, isTickEnd, Sight, sight, isHolder, heldBy, takenFrom}
 use Rattle.llc_rule.specs.Seen.{ruleRun, ruleSights, ruleAfter, calls, keptByRule, hindrances, unhindered, SeesItsOwnPast}
 use Rattle.llc_rule.specs.Sound.{Sound, isNobody}
-use Rattle.llc_rule.proofs.Lists.{by-test, either, both}
 use Rattle.llc_rule.proofs.Paths.{step-law, refused-number}
 use Rattle.llc_rule.proofs.Own.{ofSsi, blankFrom, blank, own, seenAs}
 use Rattle.llc_rule.proofs.SeenCalls.{Unhindered, own-call, other-paths}

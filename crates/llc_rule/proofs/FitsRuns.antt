@@ -9,8 +9,11 @@ use mathlib.Core.Option.{none, some}
 use borrow.Author.Tests.{leb-true, ltb-true}
 use lib.Dec.{eqb, leb}
 use lib.ListN.{length-drop}
-use Rattle.bits.proofs.Laws as Bits
+use Rattle.lists.specs.Lists.{All}
+use Rattle.lists.proofs.Lists.{all-append}
+use Rattle.lists.proofs.Choices.{both, either, by-choice}
 use Rattle.questions.specs.Outcome.{accepted}
+use Rattle.bits.proofs.Laws as Bits
 use Rattle.llc_pdus.specs.declared.Pdu.{Pdu}
 use Rattle.llc_pdus.specs.declared.Pdu.the-variants.{BlAdata, BlData, BlUdata, BlAck}
 use Rattle.llc_pdus.proofs.Laws.{header-short}
@@ -23,9 +26,7 @@ use Rattle.llc_rule.specs.Messages.{Due, stealsSlot, replyTo, carrierOf,
 use Rattle.llc_rule.specs.Link.{Link, new}
 use Rattle.llc_rule.specs.Step.{retransmissions, firstSendings, onTickEnd, step}
 use Rattle.llc_rule.specs.Runs.{left, given, Exchange, run}
-use Rattle.llc_rule.specs.Sound.{All}
 use Rattle.llc_rule.specs.Sizes.{FitsMask, FitsBits, FitsSent, FitsIndication, Fits}
-use Rattle.llc_rule.proofs.Lists.{both, either, by-choice, all-append}
 use Rattle.llc_rule.proofs.Paths.{Heard, Paths, step-law}
 use Rattle.llc_rule.proofs.Ranges.{request-fields, frame-fields, type-at-most, frame-lengths, request-lengths, sdu-end}
 use Rattle.llc_rule.proofs.Held.{AllHeld, Brings, held-step, passed-retransmissions, passed-firsts}

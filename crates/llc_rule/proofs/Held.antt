@@ -7,10 +7,12 @@ use mathlib.Core.Bool.{Bool, true, not, _&&_}
 use mathlib.Core.List.{List, [], _∷_, _++_}
 use mathlib.Core.Option.{Option, none, some}
 use lib.Dec.{ltb}
+use Rattle.lists.specs.Lists.{Found, nothing, first, others, Visit, walk, among, All}
+use Rattle.lists.proofs.Lists.{all-append, Split, FoundBy, find-by, TakenOut, found-out, all-middle}
+use Rattle.lists.proofs.Choices.{either}
 use Rattle.questions.specs.Outcome.{accepted}
 use Rattle.tdma_time.specs.declared.TdmaTime.{TdmaTime}
 use Rattle.llc_pdus.specs.declared.Pdu.{Pdu}
-use Rattle.llc_rule.specs.Lists.{Found, nothing, first, others, Visit, walk, among}
 use Rattle.llc_rule.specs.Calls.{Call, start, tickStart, tickEnd, request, frame, byReceipt, Frame, parsed}
 use Rattle.llc_rule.specs.Ranges.{requestInRange, frameInRange}
 use Rattle.llc_rule.specs.Records.{Record, acknowledged, Sent}
@@ -19,10 +21,7 @@ use Rattle.llc_rule.specs.Messages.{Message, Due, Place, placeAt, taken?
 use Rattle.llc_rule.specs.Link.{Link, startedWith, withReceipts, dueNow}
 use Rattle.llc_rule.specs.Step.{dueFor, withAcknowledged, withUnacknowledged, withDue, awaiting, fits, answeredBy, answered, stay, timed, agedBy, retransmission, Sending, firstSending, retransmissions, firstSendings, onTickEnd, step}
 use Rattle.llc_rule.specs.Runs.{left}
-use Rattle.llc_rule.specs.Sound.{All}
-use Rattle.llc_rule.proofs.Lists.{either, all-append, Split, FoundBy, find-by, TakenOut, found-out}
 use Rattle.llc_rule.proofs.Paths.{Paths, step-law}
-use Rattle.llc_rule.proofs.SoundLists.{all-middle}
 
 -- What holds of all holds of one that was found, and of the others.
 pub all-found :

@@ -9,19 +9,20 @@ use borrow.Author.Tests.{eqb-true, eq-eqb}
 use lib.Dec.{eqb}
 use lib.ListN.{length, set, length-set}
 use lib.Seq.{ext-getD}
+use Rattle.lists.specs.Lists.{keep, any, Found, nothing, first, behind, find, others, All}
+use Rattle.lists.proofs.Lists.{keep-yes, keep-no, keep-append, find-by, TakenOut, found-out}
+use Rattle.lists.proofs.Choices.{by-test, clash}
+use Rattle.questions.specs.Outcome.{Outcome, accepted, refused}
 use Rattle.tdma_time.specs.declared.TdmaTime.{TdmaTime}
 use Rattle.tx_receipt.specs.Marks.{Mark}
-use Rattle.questions.specs.Outcome.{Outcome, accepted, refused}
-use Rattle.llc_rule.specs.Lists.{keep, any, Found, nothing, first, behind, find, others}
 use Rattle.llc_rule.specs.Records.{Record, ssiOf, Sent}
 use Rattle.llc_rule.specs.Messages.{Message, Due, Place, free, placeAt, mark}
 use Rattle.llc_rule.specs.Done.{Done, done}
 use Rattle.llc_rule.specs.Link.{Link, Row, bitOf, withBit}
 use Rattle.llc_rule.specs.Rule.{Own, keepingBit, keepingAcknowledged, keepingUnacknowledged, keepingDue, keepingReceipts}
 use Rattle.llc_rule.specs.Past.{Holders, holding, isHolder}
-use Rattle.llc_rule.specs.Sound.{All, ofAddress}
+use Rattle.llc_rule.specs.Sound.{ofAddress}
 use Rattle.llc_rule.proofs.Places.{place-set, place-mark, length-mark}
-use Rattle.llc_rule.proofs.Lists.{by-test, clash, keep-yes, keep-no, keep-append, find-by, TakenOut, found-out}
 
 abbrev pub sentTo : ℕ → Sent → Bool
 sentTo a s = eqb (s .ssi) a

@@ -8,13 +8,15 @@ use mathlib.Core.List.{List, [], _∷_, _++_}
 use borrow.Author.Tests.{eqb-true, ne-eqb, leb-true, ltb-true}
 use lib.Dec.{eqb, leb}
 use lib.ListN.{length, getD, drop, set}
+use Rattle.lists.specs.Lists.{all, any, among, Found, nothing, first, others}
+use Rattle.lists.proofs.Lists.{any-append, find-by, TakenOut, found-out}
+use Rattle.lists.proofs.Choices.{by-test, by-choice, both}
 use Rattle.questions.specs.Outcome.{Outcome, accepted, refused, number}
 use Rattle.questions.proofs.Asked.{by-question}
 use Rattle.tdma_time.specs.declared.TdmaTime.{TdmaTime}
 use Rattle.llc_pdus.specs.Headers.{Reading, reading, hasFcs, one, kindAt, lengthOf}
 use Rattle.llc_pdus.specs.declared.Pdu.{Pdu}
 use Rattle.llc_pdus.specs.declared.Pdu.the-variants.{BlUdata, BlAck}
-use Rattle.llc_rule.specs.Lists.{all, any, among, Found, nothing, first, others}
 use Rattle.llc_rule.specs.Calls.{Call, start, tickStart, tickEnd, request, frame, byReceipt, Service, tlData, tlUnitdata, Action, report, release, Request, Frame, isStart, Tag, tag21, tag22, tag23, tag24, tag25, tag26, tag27, tag28, unknown, tagOf, filledFrom, inner, filled, parsed}
 use Rattle.llc_rule.specs.Ranges.{steals, wantsFcs, isReceipt, requestInRange, frameInRange, actionInRange, inRange}
 use Rattle.llc_rule.specs.Records.{Record}
@@ -23,7 +25,6 @@ use Rattle.llc_rule.specs.Messages.{Due, free, mark, markOf}
 use Rattle.llc_rule.specs.Done.{Done, done}
 use Rattle.llc_rule.specs.Link.{Link, startedWith, withTime, withReceipts, dueNow}
 use Rattle.llc_rule.specs.Step.{isDueFor, dueFor, receiptFree, rowFor, acknowledgedPlace, unacknowledgedPlace, onAcknowledgedPath, withAcknowledged, withUnacknowledged, withStolen, onData, onUnitdata, dueRoom, withDue, mayFinish, answered, onReceived, onFrame, reportable, onReport, releasable, onRelease, onTickEnd, onReceipt, act, called, step}
-use Rattle.llc_rule.proofs.Lists.{by-test, by-choice, both, any-append, find-by, TakenOut, found-out}
 
 -- The numbers of refusals ---------------------------------------------------------------------------------------------------
 

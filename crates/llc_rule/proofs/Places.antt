@@ -7,11 +7,12 @@ use borrow.Author.Tests.{eqb-true, eqb-false, ltb-true, ltb-false}
 use lib.Dec.{eqb, ltb}
 use lib.ListN.{length, set, length-set, List·getD-eq-default}
 use lib.Seq.{getD-set-other, set-out}
+use Rattle.lists.proofs.Lists.{getD-set}
+use Rattle.lists.proofs.Choices.{by-test}
 use Rattle.tx_receipt.specs.Marks as Marks
 use Rattle.tx_receipt.specs.Marks.{Mark}
 use Rattle.llc_rule.specs.Messages.{Place, free, taken, placeAt, isFree, taken?, marked, mark}
 use Rattle.llc_rule.specs.Sound.{expects}
-use Rattle.llc_rule.proofs.Lists.{by-test, getD-set}
 
 -- A place that was written, and another.
 pub place-set :

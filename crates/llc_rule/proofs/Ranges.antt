@@ -8,6 +8,7 @@ use mathlib.Core.List.{List}
 use borrow.Author.Tests.{eqb-true, leb-true}
 use lib.Dec.{eqb, leb, ltb}
 use lib.ListN.{length, drop}
+use Rattle.lists.proofs.Choices.{by-test, both}
 use Rattle.questions.specs.Outcome.{Outcome, accepted, refused}
 use Rattle.questions.proofs.Asked.{by-question}
 use Rattle.llc_pdus.specs.Headers.{Reading, reading, hasFcs}
@@ -16,7 +17,6 @@ use Rattle.llc_rule.specs.Limits.{longestFrame}
 use Rattle.llc_rule.specs.Calls.{Request, Frame}
 use Rattle.llc_rule.specs.Ranges.{hasMask, isType, isReceipt, requestInRange, frameInRange}
 use Rattle.llc_rule.specs.Received.{Received, checks, checked, received}
-use Rattle.llc_rule.proofs.Lists.{by-test, both}
 
 -- The fields of a request.
 pub record RequestFields (r : Request) : Type 0 where

@@ -1,6 +1,6 @@
 -- The bytes of records: how they begin, how many they are, and that they determine the records.
 use Prim.Native.Nat.{ℕ, zero, suc, _+_, _*_, _/_, _%_, _^_, _-_, _≤_, _<_}
-use native.Mathlib.Nat.{pow-succ', one-le-pow, mod-eq-of-lt, suc-inj}
+use native.Mathlib.Nat.{pow-succ', one-le-pow, mod-eq-of-lt}
 use native.Mathlib.Omega.{arith}
 use mathlib.Core.Path.{_≡_, _∙_, refl, sym, ap, ap₂}
 use mathlib.Core.Logic.{_≢_}
@@ -10,6 +10,8 @@ use mathlib.Core.Option.{Option, none, some}
 use lib.Arith.{mod-mul}
 use lib.ListN.{length, take, drop, getD, replicate, length-append, length-drop}
 use lib.Seq.{take-at, take-take, take-add, length-take-le}
+use Rattle.lists.specs.Lists.{All}
+use Rattle.lists.proofs.Lists.{append-cancel}
 use Rattle.bits.specs.Bits.{value, toBits, AllBits}
 use Rattle.bits.proofs.Laws.{toBits-value, all-take, all-drop, all-append}
 use Rattle.bits.proofs.Bytes.{all-zeros}
@@ -18,7 +20,6 @@ use Rattle.llc_pdus.specs.Writes.{longestSent}
 use Rattle.llc_rule.specs.Limits.{longestFrame}
 use Rattle.llc_rule.specs.Calls.{fromBytes, toBytes}
 use Rattle.llc_rule.specs.Records.{Record, acknowledged, reply, unacknowledged, dataUp, unitdataUp, Sent, Reply, Indication, field, number, packed, pack, counted, masked, countedIfAny, sentBytes, replyBytes, indicationBytes, bytes, allBytes, kind}
-use Rattle.llc_rule.specs.Sound.{All}
 use Rattle.llc_rule.specs.Sizes.{Fits, FitsMask, FitsBits, FitsSent, FitsReply, FitsIndication, SmallSent}
 
 -- How records begin -------------------------------------------------------------------------------------------------------
@@ -105,15 +106,6 @@ pack-determines p q bp bq n e =
     ∙ take-at q z (length p) (sym n)
 
 -- Fields one behind the other ---------------------------------------------------------------------------------------------
-
--- Two lists of one length before others.
-pub append-cancel : {A : Type 0} (p q x y : List A) → length p ≡ length q → p ++ x ≡ q ++ y → (p ≡ q) × (x ≡ y)
-append-cancel [] [] x y n e = (refl, e)
-append-cancel [] (b ∷ q) x y n e = absurd (omega arith)
-append-cancel (a ∷ p) [] x y n e = absurd (omega arith)
-append-cancel {A} (a ∷ p) (b ∷ q) x y n e =
-    let rest = append-cancel p q x y (suc-inj n) (tail-eq-of-cons-eq e) in
-    (ap₂ (λ (c : A) (t : List A). c ∷ t) (head-eq-of-cons-eq e) (rest .0), rest .1)
 
 -- What two equal lists give once their first fields are cut off: E of the fields, and that what is behind them is equal.
 abbrev Cut : Type 0 → List ℕ → List ℕ → List ℕ → List ℕ → Type 0

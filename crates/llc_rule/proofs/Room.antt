@@ -7,12 +7,13 @@ use mathlib.Core.List.{List, [], _∷_, _++_, append-assoc, append-nil, map}
 use mathlib.Core.Option.{Option, none, some}
 use lib.Dec.{ltb}
 use lib.ListN.{length, length-append, length-drop}
+use Rattle.lists.specs.Lists.{Visit, walk, among, All}
+use Rattle.lists.proofs.Choices.{by-test, either}
 use Rattle.tdma_time.specs.declared.TdmaTime.{TdmaTime}
 use Rattle.llc_pdus.specs.declared.Pdu.{Pdu}
-use Rattle.llc_pdus.proofs.Framing.{frame-short}
 use Rattle.llc_pdus.specs.declared.Pdu.the-variants.{BlAdata, BlData, BlUdata, BlAck}
+use Rattle.llc_pdus.proofs.Framing.{frame-short}
 use Rattle.llc_rule.specs.Limits.{longestFrame, outputBytes}
-use Rattle.llc_rule.specs.Lists.{Visit, walk, among}
 use Rattle.llc_rule.specs.Calls.{Call, start, tickStart, tickEnd, request, frame, byReceipt, Request, Frame}
 use Rattle.llc_rule.specs.Ranges.{requestInRange}
 use Rattle.llc_rule.specs.Records.{Record, acknowledged, unacknowledged, Sent, Indication, indicationBytes, bytes, allBytes}
@@ -21,9 +22,8 @@ use Rattle.llc_rule.specs.Messages.{Message, Due, sentOf, Place, overdue
 use Rattle.llc_rule.specs.Link.{Link, new}
 use Rattle.llc_rule.specs.Step.{timed, stay, resend, leave, agedBy, retransmission, Sending, firstSending, retransmissions, firstSendings, onTickEnd, step}
 use Rattle.llc_rule.specs.Runs.{left, given, after}
-use Rattle.llc_rule.specs.Sound.{All, Within}
+use Rattle.llc_rule.specs.Sound.{Within}
 use Rattle.llc_rule.specs.Sizes.{SmallSent, Small}
-use Rattle.llc_rule.proofs.Lists.{by-test, either}
 use Rattle.llc_rule.proofs.Paths.{Heard, Paths, step-law}
 use Rattle.llc_rule.proofs.Records.{mostSent, small-sent, small-reply, small-indication}
 use Rattle.llc_rule.proofs.Ranges.{frame-lengths, request-lengths, sdu-end}

@@ -13,14 +13,14 @@ use Prim.Native.Nat.{ℕ, zero, suc}
 use mathlib.Core.Bool.{Bool, true, false, _&&_}
 use mathlib.Core.List.{List, [], _∷_, _++_, map}
 use lib.Dec.{eqb}
+use Rattle.lists.specs.Lists.{any, find, walk}
 use Rattle.bits.specs.Bits.{toBits, value, bits}
-use Rattle.fcs.specs.Polynomials.{plus, divisor, rest}
-use Rattle.fcs.specs.Fcs.{start, fcs}
-use Rattle.llc_pdus.specs.Headers.{reading}
-use Rattle.llc_pdus.specs.Writes.{frameBits}
 use Rattle.tdma_time.specs.Modulo.{modulo}
 use Rattle.tdma_time.specs.Slots.{slots, timeAt, plus as plusSlots, centred, minus, valid}
-use Rattle.llc_rule.specs.Lists.{any, find, walk}
+use Rattle.llc_pdus.specs.Headers.{reading}
+use Rattle.llc_pdus.specs.Writes.{frameBits}
+use Rattle.fcs.specs.Polynomials.{plus, divisor, rest}
+use Rattle.fcs.specs.Fcs.{start, fcs}
 use Rattle.llc_rule.specs.Calls.{fromBytes, toBytes, filledFrom, requestIn, frameIn, tagOf, inner, filled, parsed}
 use Rattle.llc_rule.specs.Records.{Record, packed, counted, masked, countedIfAny, sentBytes, replyBytes, indicationBytes, bytes}
 use Rattle.llc_rule.specs.Ranges.{requestInRange, frameInRange, inRange}

@@ -6,10 +6,11 @@ use mathlib.Core.List.{List, []}
 use mathlib.Core.Option.{Option, none, some}
 use borrow.Author.Tests.{eqb-true, ltb-true}
 use lib.ListN.{length}
+use Rattle.lists.specs.Lists.{keep, any, among}
+use Rattle.lists.proofs.Choices.{by-test, both, clash}
 use Rattle.questions.specs.Outcome.{Outcome, accepted, refused, ask, number}
 use Rattle.questions.proofs.Asked.{by-question}
 use Rattle.llc_pdus.specs.declared.Pdu.the-variants.{BlUdata}
-use Rattle.llc_rule.specs.Lists.{keep, any, among}
 use Rattle.llc_rule.specs.Calls.{Call, start, tickStart, tickEnd, request, frame, byReceipt, tlData, tlUnitdata, report, release, Request, Frame}
 use Rattle.llc_rule.specs.Ranges.{isReceipt, inRange}
 use Rattle.llc_rule.specs.Records.{Record}
@@ -22,7 +23,6 @@ use Rattle.llc_rule.specs.Rule.{Own, afterStart, afterData, afterUnitdat
 use Rattle.llc_rule.specs.Past.{aboutCall, Holders, nobody, holding, isHolder, heldAfter, holder's, whoseOf, concerns, isTickEnd}
 use Rattle.llc_rule.specs.Seen.{hindrances}
 use Rattle.llc_rule.specs.Sound.{Sound}
-use Rattle.llc_rule.proofs.Lists.{by-test, both, clash}
 use Rattle.llc_rule.proofs.Paths.{Paths}
 use Rattle.llc_rule.proofs.Own.{ofSsi, blankFrom, own, seenAs}
 use Rattle.llc_rule.proofs.SeenRequests.{afterDataLink, data-own, unitdata-own, acknowledged-other, unacknowledged-other}

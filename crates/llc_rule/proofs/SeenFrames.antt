@@ -6,23 +6,24 @@ use mathlib.Core.List.{List, [], _∷_, append-nil}
 use mathlib.Core.Option.{Option, none, some}
 use borrow.Author.Tests.{eq-eqb, eqb-true, not-true}
 use lib.Dec.{eqb}
+use Rattle.lists.specs.Lists.{keep, any, Found, nothing, first, behind, find, others, All}
+use Rattle.lists.proofs.Lists.{keep-yes, keep-no, keep-append, Split, FoundBy, find-by, all-back}
+use Rattle.lists.proofs.Choices.{by-test, both, neither, if-true, if-false, and-true, and-false}
 use Rattle.questions.specs.Outcome.{accepted}
 use Rattle.tx_receipt.specs.Marks as Marks
 use Rattle.llc_pdus.specs.declared.Pdu.{Pdu}
 use Rattle.llc_pdus.specs.declared.Pdu.the-variants.{BlAdata, BlData, BlUdata, BlAck}
-use Rattle.llc_rule.specs.Lists.{keep, any, Found, nothing, first, behind, find, others}
 use Rattle.llc_rule.specs.Calls.{Frame}
 use Rattle.llc_rule.specs.Records.{Record, dataUp, ssiOf}
 use Rattle.llc_rule.specs.Received.{Received, nsOf, nrOf, indication, unlessEmpty, upward}
 use Rattle.llc_rule.specs.Messages.{Message, Due, Place, mark, slotBefore}
-use Rattle.llc_rule.specs.Link.{Link, acknowledgedNow, dueNow, withReceipts, bitOf}
+use Rattle.llc_rule.specs.Link.{Link, acknowledgedNow, dueNow, withReceipts}
 use Rattle.llc_rule.specs.Step.{dueRoom, withDue, awaiting, fits, finishable, mayFinish, answeredBy, answered, onReceived}
 use Rattle.llc_rule.specs.Rule.{Own, keepingAcknowledged, keepingDue, keepingReceipts, madeDue, theOne, oneTransmitted, canFinish, finished, heard, afterReceived}
 use Rattle.llc_rule.specs.Past.{Holders, isHolder}
-use Rattle.llc_rule.specs.Sound.{All, Owned, ofAddress, oneAhead, Sound}
-use Rattle.llc_rule.proofs.Lists.{by-test, both, neither, if-true, if-false, and-true, and-false, keep-yes, keep-no, keep-append, Split, FoundBy, find-by, all-back}
+use Rattle.llc_rule.specs.Sound.{Owned, ofAddress, oneAhead, Sound}
 use Rattle.llc_rule.proofs.Paths.{afterHeard}
-use Rattle.llc_rule.proofs.Own.{sentTo, dueTo, blank, own, seenAs, keepFound, find-keep, keep-others, place-own, own-parts, blank-mark, blank-mark-other}
+use Rattle.llc_rule.proofs.Own.{dueTo, blank, own, seenAs, keepFound, find-keep, keep-others, place-own, own-parts, blank-mark, blank-mark-other}
 
 none-found : {A : Type 0} (p : A → Bool) (l : List A) → any p l ≡ false → find p l ≡ nothing
 unfolding find any

@@ -7,8 +7,10 @@ use mathlib.Core.Option.{none, some, Option·some-injective}
 use borrow.Author.Tests.{eq-eqb, eqb-true}
 use lib.Dec.{eqb}
 use lib.ListN.{length, set}
+use Rattle.lists.specs.Lists.{keep, any}
+use Rattle.lists.proofs.Lists.{all-map}
+use Rattle.lists.proofs.Choices.{by-test, both}
 use Rattle.tx_receipt.specs.Marks.{Mark}
-use Rattle.llc_rule.specs.Lists.{keep, any}
 use Rattle.llc_rule.specs.Records.{Record, Sent}
 use Rattle.llc_rule.specs.Messages.{Message, Place, free, placeAt, mark, markOf}
 use Rattle.llc_rule.specs.Link.{Link, withReceipts}
@@ -16,7 +18,6 @@ use Rattle.llc_rule.specs.Step.{held, waits, reportable, releasable, onR
 use Rattle.llc_rule.specs.Rule.{keepingReceipts, stillWaits, stillHeld, afterReport, afterRelease}
 use Rattle.llc_rule.specs.Past.{Holders, holding, isHolder}
 use Rattle.llc_rule.specs.Sound.{Owned, Sound}
-use Rattle.llc_rule.proofs.Lists.{by-test, both, all-map}
 use Rattle.llc_rule.proofs.Own.{sentTo, own, seenAs, any-keep, place-own, own-parts, blank-mark, blank-mark-other, blank-set, blank-set-other, place-blank}
 
 -- A held message with a receipt is of the address that holds that.

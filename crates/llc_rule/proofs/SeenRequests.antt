@@ -7,9 +7,11 @@ use mathlib.Core.Option.{some}
 use borrow.Author.Tests.{eq-eqb, eqb-true}
 use lib.Dec.{eqb}
 use lib.ListN.{length, set}
+use Rattle.lists.specs.Lists.{keep, Found, nothing, first, others}
+use Rattle.lists.proofs.Lists.{keep-append, find-by, TakenOut, found-out}
+use Rattle.lists.proofs.Choices.{by-test, both}
 use Rattle.llc_pdus.specs.declared.Pdu.{Pdu}
 use Rattle.llc_pdus.specs.declared.Pdu.the-variants.{BlUdata, BlAck}
-use Rattle.llc_rule.specs.Lists.{keep, Found, nothing, first, others}
 use Rattle.llc_rule.specs.Calls.{Request}
 use Rattle.llc_rule.specs.Ranges.{steals, wantsFcs}
 use Rattle.llc_rule.specs.Records.{Sent}
@@ -19,7 +21,6 @@ use Rattle.llc_rule.specs.Step.{isDueFor, dueFor, onAcknowledgedPath, da
 use Rattle.llc_rule.specs.Rule.{Own, keepingBit, keepingAcknowledged, keepingUnacknowledged, keepingDue, keepingReceipts, dueOn, requested, afterData, afterUnitdata}
 use Rattle.llc_rule.specs.Past.{Holders, holding, isHolder}
 use Rattle.llc_rule.specs.Sound.{ofAddress}
-use Rattle.llc_rule.proofs.Lists.{by-test, both, keep-append, find-by, TakenOut, found-out}
 use Rattle.llc_rule.proofs.Paths.{Acknowledged, Unacknowledged}
 use Rattle.llc_rule.proofs.Own.{sentTo, dueTo, blank, own, keepFound, find-keep, keep-taken, bit-own, own-parts, bit-other, blank-set, blank-set-other, place-blank}
 

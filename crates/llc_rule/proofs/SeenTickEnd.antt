@@ -6,9 +6,11 @@ use mathlib.Core.List.{List, [], _∷_, _++_, map}
 use mathlib.Core.Option.{Option, none, some}
 use borrow.Author.Tests.{eqb-true, not-true}
 use lib.Dec.{eqb, ltb}
+use Rattle.lists.specs.Lists.{keep, any, among, Visit, _then_, walk, All}
+use Rattle.lists.proofs.Lists.{keep-yes, keep-no, keep-append, all-map}
+use Rattle.lists.proofs.Choices.{by-test, either, ap-cond, if-true, if-false, neither}
 use Rattle.tdma_time.specs.declared.TdmaTime.{TdmaTime}
 use Rattle.tx_receipt.specs.Marks as Marks
-use Rattle.llc_rule.specs.Lists.{keep, any, among, Visit, _then_, walk}
 use Rattle.llc_rule.specs.Records.{Record, acknowledged, unacknowledged, Sent}
 use Rattle.llc_rule.specs.Messages.{Message, submittedAfter, doneAt, hasTime, overdue, replyTo, Place, placeAt, taken?, mark, reported}
 use Rattle.llc_rule.specs.Done.{done}
@@ -16,8 +18,7 @@ use Rattle.llc_rule.specs.Link.{Link}
 use Rattle.llc_rule.specs.Step.{stay, timed, resend, leave, agedBy, retransmission, Sending, firstSending, retransmissions, firstSendings, onTickEnd}
 use Rattle.llc_rule.specs.Rule.{noted, onTime, looked, underWay, submitOldest, submitted, resent, sentFirst, atTickEnd}
 use Rattle.llc_rule.specs.Past.{Holders, isHolder}
-use Rattle.llc_rule.specs.Sound.{All, Owned, ofAddress, oneAhead, Sound}
-use Rattle.llc_rule.proofs.Lists.{by-test, either, ap-cond, if-true, if-false, neither, keep-yes, keep-no, keep-append, all-map}
+use Rattle.llc_rule.specs.Sound.{Owned, ofAddress, oneAhead, Sound}
 use Rattle.llc_rule.proofs.SoundTickEnd.{owned-between, ahead-between}
 use Rattle.llc_rule.proofs.Own.{sentTo, dueTo, ofSsi, blank, own, keep-map, place-own, own-parts, blank-mark, blank-mark-other}
 

@@ -8,11 +8,13 @@ use mathlib.Core.Option.{Option, none, some, Option·some-injective, Option·non
 use borrow.Author.Tests.{eqb-false, eq-eqb, ne-eqb, ltb-true}
 use lib.Dec.{eqb, ltb}
 use lib.ListN.{length, length-append}
+use Rattle.lists.specs.Lists.{among, Found, nothing, first, Visit, walk, All}
+use Rattle.lists.proofs.Lists.{all-append, all-front, all-back, Split, FoundBy, find-by}
+use Rattle.lists.proofs.Choices.{by-test, by-choice, either, if-false, clash}
 use Rattle.questions.specs.Outcome.{number}
 use Rattle.tdma_time.specs.declared.TdmaTime.{TdmaTime}
 use Rattle.llc_pdus.specs.declared.Pdu.{Pdu}
 use Rattle.llc_pdus.specs.declared.Pdu.the-variants.{BlAdata, BlData, BlUdata, BlAck}
-use Rattle.llc_rule.specs.Lists.{among, Found, nothing, first, Visit, walk}
 use Rattle.llc_rule.specs.Calls.{Request, Frame}
 use Rattle.llc_rule.specs.Records.{Record, acknowledged, reply, unacknowledged, dataUp, unitdataUp, Sent}
 use Rattle.llc_rule.specs.Received.{nsOf, nrOf, upward}
@@ -21,9 +23,8 @@ use Rattle.llc_rule.specs.Link.{Link, bitOf, new, startedWith, dueNow}
 use Rattle.llc_rule.specs.Step.{dueFor, receiptFree, dataPdu, withAcknowledged, withUnacknowledged, withDue, awaiting, fits, answeredBy, answered, agedBy, retransmission, Sending, firstSending, retransmissions, firstSendings, onTickEnd, step}
 use Rattle.llc_rule.specs.Runs.{left, given, Exchange, exchange, run}
 use Rattle.llc_rule.specs.Past.{About, aboutCall, Holders, nobody, holding, heldAfter, doneTo, holders}
-use Rattle.llc_rule.specs.Sound.{All, Owned, Sound, isNobody}
+use Rattle.llc_rule.specs.Sound.{Owned, Sound, isNobody}
 use Rattle.llc_rule.specs.Sendings.{taker, requestOf, ends, handed, sendings, AtMostFour, EachAtMostFour}
-use Rattle.llc_rule.proofs.Lists.{by-test, by-choice, either, if-false, clash, all-append, all-front, all-back, Split, FoundBy, find-by}
 use Rattle.llc_rule.proofs.Paths.{Acknowledged, Unacknowledged, Paths, step-law}
 use Rattle.llc_rule.proofs.About.{about-accepted, takes-own}
 use Rattle.llc_rule.proofs.Held.{all-found}

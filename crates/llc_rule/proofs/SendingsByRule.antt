@@ -9,8 +9,10 @@ use mathlib.Core.Option.{some}
 use borrow.Author.Tests.{eqb-true, eq-eqb}
 use lib.Dec.{eqb}
 use lib.ListN.{length, length-append}
+use Rattle.lists.specs.Lists.{keep, All}
+use Rattle.lists.proofs.Lists.{all-append, all-front, all-back}
+use Rattle.lists.proofs.Choices.{by-test, by-choice, and-true, if-true, if-false}
 use Rattle.questions.specs.Outcome.{number}
-use Rattle.llc_rule.specs.Lists.{keep}
 use Rattle.llc_rule.specs.Calls.{Request, parsed}
 use Rattle.llc_rule.specs.Records.{Record, ssiOf, Sent}
 use Rattle.llc_rule.specs.Messages.{sentOf}
@@ -20,9 +22,8 @@ use Rattle.llc_rule.specs.Rule.{Own, atFirst, rule}
 use Rattle.llc_rule.specs.Runs.{Exchange, exchange, left, given, run}
 use Rattle.llc_rule.specs.Past.{Whom, Holding, empties, takes, frees, stays, about, Holders, nobody, doneTo, holders, whoseOf, whose, concerns, leftOut, inPast, past, isTickEnd, Sight, sight}
 use Rattle.llc_rule.specs.Seen.{ruleRun, ruleSights, calls, ruled, unhindered}
-use Rattle.llc_rule.specs.Sound.{All, Sound}
+use Rattle.llc_rule.specs.Sound.{Sound}
 use Rattle.llc_rule.specs.Sendings.{requestOf, ends, handed, sendings, AtMostFour, EachAtMostFour}
-use Rattle.llc_rule.proofs.Lists.{by-test, by-choice, and-true, if-true, if-false, all-append, all-front, all-back}
 use Rattle.llc_rule.proofs.About.{Agree, agree, takes-for, takes-own}
 use Rattle.llc_rule.proofs.Histories.{pastFrom, past-from}
 use Rattle.llc_rule.proofs.SoundCalls.{sound-new, sound-step}

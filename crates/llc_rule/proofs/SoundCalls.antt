@@ -8,12 +8,14 @@ use mathlib.Core.Option.{none}
 use borrow.Author.Tests.{ne-eqb, not-true}
 use lib.Dec.{eqb}
 use lib.ListN.{set, replicate, length-set, length-replicate}
+use Rattle.lists.specs.Lists.{keep, any}
+use Rattle.lists.proofs.Lists.{all-map, all-but}
+use Rattle.lists.proofs.Choices.{both, neither}
 use Rattle.questions.specs.Outcome.{accepted}
 use Rattle.tdma_time.specs.declared.TdmaTime.{TdmaTime}
 use Rattle.tx_receipt.specs.States.{is, final}
 use Rattle.tx_receipt.specs.Marks.{Mark}
 use Rattle.tx_receipt.specs.declared.TxState.the-variants.{Pending}
-use Rattle.llc_rule.specs.Lists.{keep, any}
 use Rattle.llc_rule.specs.Calls.{Call, parsed}
 use Rattle.llc_rule.specs.Records.{Record}
 use Rattle.llc_rule.specs.Messages.{Message, free, placeAt, taken?, mark, markOf, noReceipts}
@@ -23,12 +25,11 @@ use Rattle.llc_rule.specs.Runs.{left, exchange, run, after}
 use Rattle.llc_rule.specs.Past.{Holding, stays, aboutCall, about, Holders, nobody, holding, heldAfter, doneTo, holders, History, nothingYet, andThen, history, holdersAfter}
 use Rattle.llc_rule.specs.Sound.{oneAhead, Sound}
 use Rattle.llc_rule.proofs.SoundTickEnd.{sound-tick-end}
-use Rattle.llc_rule.proofs.Lists.{both, neither, all-map}
 use Rattle.llc_rule.proofs.Paths.{Number, Paths, step-law}
 use Rattle.llc_rule.proofs.SoundRequests.{sound-with-acknowledged, sound-with-unacknowledged}
 use Rattle.llc_rule.proofs.SoundFrames.{sound-heard}
 use Rattle.llc_rule.proofs.Places.{mark-free}
-use Rattle.llc_rule.proofs.SoundLists.{all-but, owned-marked, owned-other, free-written, pending-other, waiting-other, waiting-marked}
+use Rattle.llc_rule.proofs.SoundLists.{owned-marked, owned-other, free-written, pending-other, waiting-other, waiting-marked}
 
 -- Empty links -------------------------------------------------------------------------------------------------------------
 

@@ -8,9 +8,11 @@ use mathlib.Core.Option.{Option, none, some}
 use borrow.Author.Tests.{eq-eqb, ltb-true}
 use lib.Dec.{eqb}
 use lib.ListN.{length, length-append, length-set}
+use Rattle.lists.specs.Lists.{any, Found, nothing, first, find}
+use Rattle.lists.proofs.Lists.{all-map, none-counted, FoundBy, find-by, count-yes, count-front, count-less, all-but, all-middle}
+use Rattle.lists.proofs.Choices.{by-test, both}
 use Rattle.tx_receipt.specs.Marks as Marks
 use Rattle.tx_receipt.specs.Marks.{Mark}
-use Rattle.llc_rule.specs.Lists.{any, Found, nothing, first, find}
 use Rattle.llc_rule.specs.Calls.{Frame}
 use Rattle.llc_rule.specs.Received.{Received, nsOf, nrOf}
 use Rattle.llc_rule.specs.Records.{Sent}
@@ -19,9 +21,8 @@ use Rattle.llc_rule.specs.Link.{Link, acknowledgedNow, dueNow, withRecei
 use Rattle.llc_rule.specs.Step.{dueRoom, withDue, awaiting, fits, answeredBy, answered}
 use Rattle.llc_rule.specs.Past.{Holders}
 use Rattle.llc_rule.specs.Sound.{acknowledgedWith, unacknowledgedWith, Sound}
-use Rattle.llc_rule.proofs.Lists.{by-test, both, all-map, none-counted, FoundBy, find-by}
 use Rattle.llc_rule.proofs.Places.{mark-free}
-use Rattle.llc_rule.proofs.SoundLists.{count-yes, count-front, count-less, all-but, all-middle, owned-marked, pending-other, waiting-other, ahead-front, ahead-less}
+use Rattle.llc_rule.proofs.SoundLists.{owned-marked, pending-other, waiting-other, ahead-front, ahead-less}
 use Rattle.llc_rule.proofs.Paths.{Heard, afterHeard}
 
 -- A submitted message moved to the front of the queue.

@@ -1,71 +1,24 @@
 -- What the invariant needs of lists, places and the messages of an address.
-use Prim.Native.Nat.{ℕ, suc, _+_, _≤_, _<_}
-use native.Mathlib.Omega.{arith}
+use Prim.Native.Nat.{ℕ, _+_, _<_}
 use mathlib.Core.Path.{_≡_, _∙_, refl, sym}
 use mathlib.Core.Bool.{Bool, true, false, _||_}
 use mathlib.Core.List.{List, [], _∷_, _++_}
 use mathlib.Core.Option.{Option}
 use borrow.Author.Tests.{eqb-true, not-true}
 use lib.Dec.{eqb}
-use lib.ListN.{length, set, length-append}
+use lib.ListN.{length, set}
+use Rattle.lists.specs.Lists.{keep, any}
+use Rattle.lists.proofs.Lists.{keep-yes, keep-no, keep-append, any-append, getD-set}
+use Rattle.lists.proofs.Choices.{by-test, neither, clash}
 use Rattle.tx_receipt.specs.States.{is}
 use Rattle.tx_receipt.specs.Marks.{Mark}
 use Rattle.tx_receipt.specs.declared.TxState.the-variants.{Pending}
 use Rattle.tx_receipt.specs.declared.TxReceipt.{TxReceipt}
-use Rattle.llc_rule.specs.Lists.{keep, any}
 use Rattle.llc_rule.specs.Messages.{Message, Place, free, taken, placeAt, isFree, taken?, mark}
 use Rattle.llc_rule.specs.Records.{Sent}
 use Rattle.llc_rule.specs.Past.{Holders, holding}
-use Rattle.llc_rule.specs.Sound.{All, Owned, IsPending, expects, Expects, Waiting, isNobody, oneAhead}
+use Rattle.llc_rule.specs.Sound.{Owned, IsPending, expects, Expects, Waiting, isNobody, oneAhead}
 use Rattle.llc_rule.proofs.Places.{place-other, mark-free, mark-expects}
-use Rattle.llc_rule.proofs.Lists.{by-test, neither, clash, keep-yes, keep-no, keep-append, any-append, getD-set}
-
-module _ {A : Type 0} where
-  -- How many pass, of two lists put together and of one element and a list.
-  pub count-append : (p : A → Bool) (l m : List A) → length (keep p (l ++ m)) ≡ length (keep p l) + length (keep p m)
-  count-append p l m = rw (keep-append p l m) (length-append (keep p l) (keep p m))
-
-  pub count-yes : (p : A → Bool) (x : A) (l : List A) → p x ≡ true → length (keep p (x ∷ l)) ≡ suc (length (keep p l))
-  count-yes p x l h = rw (keep-yes p x l h)
-
-  pub count-no : (p : A → Bool) (x : A) (l : List A) → p x ≡ false → length (keep p (x ∷ l)) ≡ length (keep p l)
-  count-no p x l h = rw (keep-no p x l h)
-
-  -- One moved to the front counts as before, and one less counts no more.
-  pub count-front :
-      (p : A → Bool) (f : List A) (x : A) (b : List A)
-      → length (keep p (x ∷ (f ++ b))) ≡ length (keep p (f ++ (x ∷ b)))
-  count-front p f x b =
-      by-test (p x)
-      (λ h. rw (count-yes p x (f ++ b) h, count-append p f b, count-append p f (x ∷ b), count-yes p x b h) (omega arith))
-      (λ h. rw (count-no p x (f ++ b) h, count-append p f b, count-append p f (x ∷ b), count-no p x b h))
-
-  pub count-less : (p : A → Bool) (x : A) (l : List A) → length (keep p l) ≤ length (keep p (x ∷ l))
-  count-less p x l =
-      by-test (p x) (λ h. rw (count-yes p x l h) (omega arith)) (λ h. rw (count-no p x l h) (omega arith))
-
-  -- None counts where each fails the test.
-  pub none-passes : (p : A → Bool) (P : A → Type 0) (l : List A) → ((x : A) → P x → p x ≡ false) → All P l → length (keep p l) ≡ 0
-  unfolding keep
-  none-passes p P [] f a = refl
-  none-passes p P (x ∷ l) f a = rw (f x (a .0)) (none-passes p P l f (a .1))
-
-  -- What holds of those that fail a test holds of all where none passes it.
-  pub all-but :
-      (p : A → Bool) (P Q : A → Type 0) (l : List A)
-      → ((x : A) → P x → p x ≡ false → Q x)
-      → any p l ≡ false
-      → All P l
-      → All Q l
-  unfolding any
-  all-but p P Q [] f e a = tt
-  all-but p P Q (x ∷ l) f e a =
-      let n = neither {x = p x} {y = any p l} e in (f x (a .0) (n .0), all-but p P Q l f (n .1) (a .1))
-
-  -- What holds of all holds of the one in the middle, and of the others.
-  pub all-middle : (P : A → Type 0) (f : List A) (x : A) (b : List A) → All P (f ++ (x ∷ b)) → All P (x ∷ (f ++ b))
-  all-middle P [] x b a = a
-  all-middle P (y ∷ f) x b a = let r = all-middle P f x b (a .1) in (r .0, (a .0, r .1))
 
 -- Places ------------------------------------------------------------------------------------------------------------------
 

@@ -9,8 +9,10 @@ use borrow.Author.Tests.{eqb-true, eq-eqb, ltb-true}
 use lib.Dec.{eqb, ltb}
 use lib.ListN.{length, set, length-append, length-set}
 use lib.Seq.{getD-set-same}
+use Rattle.lists.specs.Lists.{keep, any, Found, nothing, first, others, All}
+use Rattle.lists.proofs.Lists.{keep-append, all-append, all-map, find-by, TakenOut, found-out, count-append, none-passes}
+use Rattle.lists.proofs.Choices.{by-test, clash}
 use Rattle.llc_pdus.specs.declared.Pdu.{Pdu}
-use Rattle.llc_rule.specs.Lists.{keep, any, Found, nothing, first, others}
 use Rattle.llc_rule.specs.Calls.{Request}
 use Rattle.llc_rule.specs.Ranges.{requestInRange}
 use Rattle.llc_rule.specs.Records.{Sent}
@@ -18,10 +20,9 @@ use Rattle.llc_rule.specs.Messages.{Message, waiting, Due, Place, free, 
 use Rattle.llc_rule.specs.Link.{Link, Row, acknowledgedNow, unacknowledgedNow, dueNow, withReceipts, withRows, bitOf, withBit}
 use Rattle.llc_rule.specs.Step.{isDueFor, dueFor, rowFor, dataPdu, withAcknowledged, withUnacknowledged}
 use Rattle.llc_rule.specs.Past.{Holders, holding}
-use Rattle.llc_rule.specs.Sound.{All, Owned, IsPending, Expects, Waiting, acknowledgedWith, unacknowledgedWith, ofAddress, Sound}
-use Rattle.llc_rule.proofs.Lists.{by-test, clash, keep-append, all-append, all-map, find-by, TakenOut, found-out}
+use Rattle.llc_rule.specs.Sound.{Owned, IsPending, Expects, Waiting, acknowledgedWith, unacknowledgedWith, ofAddress, Sound}
 use Rattle.llc_rule.proofs.Paths.{Acknowledged, Unacknowledged}
-use Rattle.llc_rule.proofs.SoundLists.{count-append, none-passes, other-place, other-pending, other-expecting, owned-other, free-written, pending-other, waiting-other, ahead-append}
+use Rattle.llc_rule.proofs.SoundLists.{other-place, other-pending, other-expecting, owned-other, free-written, pending-other, waiting-other, ahead-append}
 
 -- The new message ---------------------------------------------------------------------------------------------------------
 

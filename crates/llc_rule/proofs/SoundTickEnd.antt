@@ -9,20 +9,21 @@ use borrow.Author.Tests.{eqb-true, eqb-false, eq-eqb, ne-eqb, not-true}
 use lib.Dec.{eqb, ltb}
 use lib.ListN.{length}
 use lib.Seq.{getD-set-other}
+use Rattle.lists.specs.Lists.{keep, any, among, Visit, walk, All}
+use Rattle.lists.proofs.Lists.{keep-yes, keep-no, all-map}
+use Rattle.lists.proofs.Choices.{by-test, both, neither, clash}
 use Rattle.tdma_time.specs.declared.TdmaTime.{TdmaTime}
 use Rattle.tx_receipt.specs.States.{is, number}
 use Rattle.tx_receipt.specs.Marks as Marks
 use Rattle.tx_receipt.specs.Marks.{Mark}
 use Rattle.tx_receipt.specs.declared.TxState.the-variants.{Pending}
-use Rattle.llc_rule.specs.Lists.{keep, any, among, Visit, walk}
 use Rattle.llc_rule.specs.Records.{Record, acknowledged, Sent}
 use Rattle.llc_rule.specs.Messages.{Message, submittedAfter, doneAt, hasTime, overdue, Place, free, taken, placeAt, isFree, taken?, marked, mark, reported}
 use Rattle.llc_rule.specs.Link.{Link}
 use Rattle.llc_rule.specs.Step.{stay, resend, leave, agedBy, retransmission, Sending, firstSending, retransmissions, firstSendings, onTickEnd}
 use Rattle.llc_rule.specs.Past.{Holders}
-use Rattle.llc_rule.specs.Sound.{All, Owned, expects, Waiting, acknowledgedWith, ofAddress, oneAhead, Sound}
+use Rattle.llc_rule.specs.Sound.{Owned, expects, Waiting, acknowledgedWith, ofAddress, oneAhead, Sound}
 use Rattle.llc_rule.proofs.Places.{length-mark, mark-free, mark-expects}
-use Rattle.llc_rule.proofs.Lists.{by-test, both, neither, clash, keep-yes, keep-no, all-map}
 
 -- Receipts ----------------------------------------------------------------------------------------------------------------
 

@@ -6,12 +6,12 @@ use mathlib.Core.List.{List, [], _∷_, map}
 use mathlib.Core.Option.{Option, none, some}
 use lib.Dec.{eqb}
 use lib.ListN.{length, set}
+use Rattle.lists.specs.Lists.{keep, any, all}
 use Rattle.questions.specs.Outcome.{number}
 use Rattle.tx_receipt.specs.Marks.{discarded}
 use Rattle.tx_receipt.specs.declared.TxState.the-variants.{Transmitted}
 use Rattle.llc_pdus.specs.Writes.{longest}
 use Rattle.llc_rule.specs.Limits.{longestFrame, storeBytes, outputBytes}
-use Rattle.llc_rule.specs.Lists.{keep, any, all}
 use Rattle.llc_rule.specs.Calls.{toBytes}
 use Rattle.llc_rule.specs.Records.{Record, acknowledged, reply, unacknowledged, dataUp, unitdataUp, Sent, Indication}
 use Rattle.llc_rule.specs.Messages.{Place, free, taken, pending, marked}

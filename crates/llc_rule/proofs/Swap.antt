@@ -6,8 +6,9 @@ use mathlib.Core.List.{List, [], _∷_, _++_, map, map-append, append-nil}
 use mathlib.Core.Option.{Option, none, some}
 use borrow.Author.Tests.{eqb-true, eqb-false, eq-eqb, ne-eqb}
 use lib.Dec.{eqb}
+use Rattle.lists.specs.Lists.{all, among}
+use Rattle.lists.proofs.Choices.{by-test, both, and-false}
 use Rattle.questions.specs.Outcome.{number}
-use Rattle.llc_rule.specs.Lists.{all, among}
 use Rattle.llc_rule.specs.Messages.{placeAt, isFree}
 use Rattle.llc_rule.specs.Link.{Link, new}
 use Rattle.llc_rule.specs.Step.{step}
@@ -17,7 +18,6 @@ use Rattle.llc_rule.specs.Past.{Whom, everybody, address, holderOf, noOn
 use Rattle.llc_rule.specs.Seen.{calls, hindrances, unhindered, SeesTheSame}
 use Rattle.llc_rule.specs.Claim.{whoseAfter}
 use Rattle.llc_rule.specs.Sound.{Sound}
-use Rattle.llc_rule.proofs.Lists.{by-test, both, and-false}
 use Rattle.llc_rule.proofs.Own.{own, place-blank}
 use Rattle.llc_rule.proofs.SeenCalls.{Unhindered}
 use Rattle.llc_rule.proofs.SoundCalls.{sound-new, sound-next}

@@ -6,7 +6,9 @@ use mathlib.Core.Bool.{Bool, true, false}
 use mathlib.Core.List.{List, [], _∷_}
 use borrow.Author.Tests.{not-true}
 use lib.ListN.{length}
-use Rattle.llc_rule.specs.Lists.{keep, any}
+use Rattle.lists.specs.Lists.{keep, any}
+use Rattle.lists.proofs.Lists.{keep-yes, keep-no}
+use Rattle.lists.proofs.Choices.{by-test, neither}
 use Rattle.llc_rule.specs.Messages.{Message}
 use Rattle.llc_rule.specs.Link.{Link, new}
 use Rattle.llc_rule.specs.Rule.{Own}
@@ -14,7 +16,6 @@ use Rattle.llc_rule.specs.Runs.{run, after}
 use Rattle.llc_rule.specs.Past.{Holders, holdersAfter}
 use Rattle.llc_rule.specs.Seen.{keptByRule, unhindered, underWay}
 use Rattle.llc_rule.specs.Sound.{oneAhead, ofAddress}
-use Rattle.llc_rule.proofs.Lists.{by-test, keep-yes, keep-no, neither}
 use Rattle.llc_rule.proofs.Own.{own}
 use Rattle.llc_rule.proofs.SoundCalls.{sound-run}
 use Rattle.llc_rule.proofs.Demand3.{has-own}

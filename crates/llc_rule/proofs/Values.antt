@@ -1,31 +1,22 @@
 -- The values of a call whose bytes are bytes fit their fields: n bytes spell a number below 256 ^ n.
-use Prim.Native.Nat.{ℕ, zero, suc, _+_, _^_, _≤_, _<_}
+use Prim.Native.Nat.{ℕ, suc, _+_, _^_, _≤_, _<_}
 use native.Mathlib.Nat.{pow-succ', pow-le-pow-right}
 use native.Mathlib.Omega.{arith}
 use mathlib.Core.List.{List, [], _∷_}
 use lib.Arith.{digits-lt}
 use lib.Dec.{eqb}
 use lib.ListN.{length, getD, take, drop, length-take}
-use Rattle.bits.specs.Bits.{bits, AllBits}
-use Rattle.bits.proofs.Laws as Bits
+use Rattle.lists.specs.Lists.{All}
+use Rattle.lists.proofs.Lists.{all-take, all-drop}
 use Rattle.questions.specs.Outcome.{Outcome, accepted, refused}
 use Rattle.questions.proofs.Asked.{by-question}
+use Rattle.bits.specs.Bits.{bits, AllBits}
+use Rattle.bits.proofs.Laws as Bits
 use Rattle.llc_rule.specs.Calls.{Call, start, tickStart, tickEnd, request, frame, byReceipt, Request, Frame, fromBytes, numberAt, countAt, bitsAt, requestIn, frameIn, filledFrom, filled, Tag, tag21, tag22, tag23, tag24, tag25, tag26, tag27, tag28, unknown, tagOf, inner, parsed}
-use Rattle.llc_rule.specs.Sound.{All}
 
 -- A number that one byte holds.
 abbrev pub IsByte : ℕ → Type 0
 IsByte b = b < 256
-
-all-take : {A : Type 0} (P : A → Type 0) (n : ℕ) (l : List A) → All P l → All P (take n l)
-all-take P zero l a = tt
-all-take P (suc n) [] a = tt
-all-take P (suc n) (x ∷ l) a = (a .0, all-take P n l (a .1))
-
-all-drop : {A : Type 0} (P : A → Type 0) (n : ℕ) (l : List A) → All P l → All P (drop n l)
-all-drop P zero l a = a
-all-drop P (suc n) [] a = tt
-all-drop P (suc n) (x ∷ l) a = all-drop P n l (a .1)
 
 -- The number that n bytes spell is below 256 ^ n.
 from-bytes-below : (l : List ℕ) → All IsByte l → fromBytes l < 256 ^ length l

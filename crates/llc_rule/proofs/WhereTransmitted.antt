@@ -4,18 +4,19 @@ use mathlib.Core.Path.{_≡_, _∙_, refl, ap, subst}
 use mathlib.Core.Bool.{true}
 use mathlib.Core.List.{List, [], _∷_}
 use lib.Dec.{eqb}
+use Rattle.lists.specs.Lists.{keep, All}
+use Rattle.lists.proofs.Lists.{all-map}
+use Rattle.lists.proofs.Choices.{by-test}
 use Rattle.tx_receipt.specs.States.{is}
 use Rattle.tx_receipt.specs.Marks.{acknowledged, allowed}
 use Rattle.tx_receipt.specs.declared.TxState.the-variants.{Transmitted}
-use Rattle.llc_rule.specs.Lists.{keep}
 use Rattle.llc_rule.specs.Messages.{Message, Place, free, taken, placeAt, taken?}
 use Rattle.llc_rule.specs.Link.{new}
 use Rattle.llc_rule.specs.Rule.{Own}
 use Rattle.llc_rule.specs.Runs.{run, after}
 use Rattle.llc_rule.specs.Past.{Holders, holdersAfter, isHolder}
 use Rattle.llc_rule.specs.Seen.{keptByRule, unhindered, MarkedWhereTransmitted}
-use Rattle.llc_rule.specs.Sound.{All, expects, Owned, Waiting, ofAddress}
-use Rattle.llc_rule.proofs.Lists.{all-map, by-test}
+use Rattle.llc_rule.specs.Sound.{expects, Owned, Waiting, ofAddress}
 use Rattle.llc_rule.proofs.Own.{own, blank, place-own}
 use Rattle.llc_rule.proofs.SoundCalls.{sound-run}
 use Rattle.llc_rule.proofs.Demand3.{has-own}

@@ -6,12 +6,13 @@ use mathlib.Core.Path.{_≡_}
 use mathlib.Core.Bool.{true, false}
 use mathlib.Core.List.{List, [], _∷_, _++_, map}
 use lib.Dec.{eqb}
+use Rattle.lists.specs.Lists.{All}
 use Rattle.llc_rule.specs.Messages.{Message, Place}
 use Rattle.llc_rule.specs.Runs.{Exchange}
 use Rattle.llc_rule.specs.Past.{Whose, belongsTo, whose, holdersAfter}
 use Rattle.llc_rule.specs.Seen.{calls, unhindered, ruled, keptByRule, SeesItsOwnPast, SeesTheSame, underWay, MarkedWhereTransmitted}
 use Rattle.llc_rule.specs.Sendings.{EachAtMostFour}
-use Rattle.llc_rule.specs.Sound.{All, ofAddress}
+use Rattle.llc_rule.specs.Sound.{ofAddress}
 
 -- Whose a call is after the exchanges of other calls.
 abbrev pub whoseAfter : List Exchange → List ℕ → Whose

@@ -5,8 +5,8 @@ use mathlib.Core.Bool.{Bool, true, false, cond, not, _&&_}
 use mathlib.Core.List.{List, [], _∷_, _++_}
 use mathlib.Core.Option.{Option, none, some}
 use lib.Dec.{eqb}
+use Rattle.lists.specs.Lists.{keep}
 use Rattle.questions.specs.Outcome.{Outcome, accepted, refused}
-use Rattle.llc_rule.specs.Lists.{keep}
 use Rattle.llc_rule.specs.Calls.{Call, start, tickStart, tickEnd, request, frame, byReceipt, Action, report, release, Request, parsed}
 use Rattle.llc_rule.specs.Records.{Record, ssiOf}
 use Rattle.llc_rule.specs.Messages.{Place, isFree}

@@ -4,11 +4,11 @@ use mathlib.Core.Path.{_≡_}
 use mathlib.Core.Bool.{Bool, not}
 use mathlib.Core.List.{List, [], _∷_, map}
 use lib.ListN.{length}
+use Rattle.lists.specs.Lists.{keep, all, among}
 use Rattle.tx_receipt.specs.States.{is}
 use Rattle.tx_receipt.specs.Marks as Marks
 use Rattle.tx_receipt.specs.Marks.{allowed}
 use Rattle.tx_receipt.specs.declared.TxState.the-variants.{Transmitted}
-use Rattle.llc_rule.specs.Lists.{keep, all, among}
 use Rattle.llc_rule.specs.Messages.{Message, Place, placeAt, taken?}
 use Rattle.llc_rule.specs.Rule.{Own, atFirst, rule}
 use Rattle.llc_rule.specs.Runs.{Exchange, exchange, left}

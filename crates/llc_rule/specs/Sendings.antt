@@ -6,13 +6,13 @@ use mathlib.Core.List.{List, [], _∷_, _++_}
 use mathlib.Core.Option.{Option, none, some}
 use lib.Dec.{eqb}
 use lib.ListN.{length}
+use Rattle.lists.specs.Lists.{All}
 use Rattle.llc_pdus.specs.declared.Pdu.{Pdu}
 use Rattle.llc_rule.specs.Calls.{Request}
 use Rattle.llc_rule.specs.Records.{Record, acknowledged, reply, unacknowledged, dataUp, unitdataUp, Sent}
 use Rattle.llc_rule.specs.Messages.{sentOf}
 use Rattle.llc_rule.specs.Runs.{Exchange}
 use Rattle.llc_rule.specs.Past.{Holding, empties, takes, frees, stays, about, doneTo}
-use Rattle.llc_rule.specs.Sound.{All}
 
 -- The request for which a receipt is taken.
 abbrev pub taker : Holding → Option Request

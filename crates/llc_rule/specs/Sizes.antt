@@ -3,12 +3,12 @@ use Prim.Native.Nat.{ℕ, _^_, _≤_, _<_}
 use mathlib.Core.List.{List}
 use mathlib.Core.Option.{Option, none, some}
 use lib.ListN.{length}
+use Rattle.lists.specs.Lists.{All}
 use Rattle.bits.specs.Bits.{AllBits}
 use Rattle.llc_pdus.specs.Writes.{longestSent}
 use Rattle.llc_rule.specs.Records.{Sent, Reply, Indication, Record, acknowledged, reply, unacknowledged, dataUp, unitdataUp}
 use Rattle.llc_rule.specs.Messages.{Message}
 use Rattle.llc_rule.specs.Link.{Link}
-use Rattle.llc_rule.specs.Sound.{All}
 
 -- A mask fits one byte, if there is one.
 abbrev pub FitsMask : Option ℕ → Type 0

@@ -6,19 +6,14 @@ use mathlib.Core.List.{List, [], _∷_}
 use mathlib.Core.Option.{Option, none, some}
 use lib.Dec.{eqb}
 use lib.ListN.{length}
+use Rattle.lists.specs.Lists.{keep, any, All}
 use Rattle.tx_receipt.specs.States.{is}
 use Rattle.tx_receipt.specs.declared.TxState.the-variants.{Pending}
 use Rattle.tx_receipt.specs.declared.TxReceipt.{TxReceipt}
-use Rattle.llc_rule.specs.Lists.{keep, any}
 use Rattle.llc_rule.specs.Records.{Sent}
 use Rattle.llc_rule.specs.Messages.{Message, Place, placeAt, isFree, taken?}
 use Rattle.llc_rule.specs.Link.{Link}
 use Rattle.llc_rule.specs.Past.{Holders}
-
--- P holds of every element.
-abbrev pub All : {A : Type 0} → (A → Type 0) → List A → Type 0
-All P [] = Unit {0}
-All P (x ∷ xs) = P x × All P xs
 
 -- The receipt of a message that is held is taken, by its own address.
 pub record Owned (h : Holders) (ps : List Place) (s : Sent) : Type 0 where

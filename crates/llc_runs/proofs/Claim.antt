@@ -7,9 +7,10 @@ use mathlib.Core.Option.{some}
 use borrow.Author.Tests.{eqb-true}
 use lib.Dec.{eqb}
 use lib.ListN.{length}
+use Rattle.lists.specs.Lists.{keep, All}
+use Rattle.lists.proofs.Choices.{by-test, if-true, if-false, clash}
 use Rattle.bits.proofs.Laws.{length-bits}
 use Rattle.llc_rule.specs.Limits.{storeBytes}
-use Rattle.llc_rule.specs.Lists.{keep}
 use Rattle.llc_rule.specs.Calls.{Request}
 use Rattle.llc_rule.specs.Link.{Link, new}
 use Rattle.llc_rule.specs.Rule.{atFirst}
@@ -18,9 +19,8 @@ use Rattle.llc_rule.specs.Runs.{Exchange}
 use Rattle.llc_rule.specs.Past.{belongsTo, whose, History, historyOf, holdersAfter, past, sight, heldBy, takenFrom}
 use Rattle.llc_rule.specs.Seen.{ruleRun, ruleSights, ruleAfter, calls, unhindered, SeesItsOwnPast, SeesTheSame, underWay, MarkedWhereTransmitted}
 use Rattle.llc_rule.specs.Claim.{whoseAfter, Claims}
-use Rattle.llc_rule.specs.Sound.{ofAddress, All}
+use Rattle.llc_rule.specs.Sound.{ofAddress}
 use Rattle.llc_rule.specs.Sendings.{requestOf, sendings, AtMostFour, EachAtMostFour}
-use Rattle.llc_rule.proofs.Lists.{by-test, if-true, if-false, clash}
 use Rattle.llc_rule.proofs.Paths.{not-one}
 use Rattle.llc_rule.proofs.Claim.{claims}
 use Rattle.llc_state.specs.Ranges.{inRange}

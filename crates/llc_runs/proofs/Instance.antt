@@ -8,15 +8,14 @@ use mathlib.Core.List.{List, [], _∷_, _++_, append-nil}
 use borrow.Author.Tests.{ltb-true, le-leb, lt-leb, eq-eqb}
 use lib.Dec.{eqb, ltb, leb}
 use lib.ListN.{length, replicate, length-replicate}
+use Rattle.lists.specs.Lists.{keep, all, All}
+use Rattle.lists.proofs.Choices.{both, if-true, and-false}
 use Rattle.llc_rule.specs.Limits.{outputBytes, storeBytes}
-use Rattle.llc_rule.specs.Lists.{keep, all}
 use Rattle.llc_rule.specs.Calls.{toBytes}
 use Rattle.llc_rule.specs.Link.{new}
 use Rattle.llc_rule.specs.Runs as Rule
 use Rattle.llc_rule.specs.Runs.{Exchange}
 use Rattle.llc_rule.specs.Seen.{unhindered, SeesItsOwnPast}
-use Rattle.llc_rule.specs.Sound.{All}
-use Rattle.llc_rule.proofs.Lists.{both, if-true, and-false}
 use Rattle.llc_rule.proofs.Instance.{askFirst, askSecond, openingCalls, laterCalls, instanceCalls, turnedCalls, hasKind, hasNumber, instance-kinds, instance-numbers, unhindered-instance, unhindered-turned}
 use Rattle.llc.specs.Entry.{lentRight}
 use Rattle.llc_runs.specs.Runs.{Lent, begin, exchange, run, after}

@@ -5,14 +5,14 @@ use mathlib.Core.Bool.{Bool, false, cond, not, _&&_}
 use mathlib.Core.List.{List, [], _∷_, _++_, append-nil}
 use borrow.Author.Tests.{eqb-true, not-false}
 use lib.Dec.{eqb}
-use Rattle.llc_rule.specs.Lists.{keep, any, all, among}
+use Rattle.lists.specs.Lists.{keep, any, all, among, All}
+use Rattle.lists.proofs.Lists.{keep-yes, keep-no, keep-append, all-back}
+use Rattle.lists.proofs.Choices.{by-test, if-false}
 use Rattle.llc_rule.specs.Records.{Record, ssiOf, Sent}
 use Rattle.llc_rule.specs.Runs.{Exchange}
 use Rattle.llc_rule.specs.Past.{stays, about, Holders, heldAfter, doneTo, holders, whose, concerns, leftOut, inPast, History, andThen, history}
 use Rattle.llc_rule.specs.Seen.{hindrances, unhindered}
-use Rattle.llc_rule.specs.Sound.{All}
 use Rattle.llc_rule.specs.Sendings.{ends, handed, sendings, AtMostFour, EachAtMostFour}
-use Rattle.llc_rule.proofs.Lists.{by-test, if-false, keep-yes, keep-no, keep-append, all-back}
 use Rattle.llc_runs.specs.Heard.{wasHeard, heard}
 
 -- A call that got number 1 gave no record.

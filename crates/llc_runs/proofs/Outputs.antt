@@ -6,24 +6,24 @@ use borrow.Author.Tests.{eqb-true, not-false}
 use lib.Dec.{eqb}
 use lib.ListN.{length, take, drop}
 use lib.Seq.{take-at}
+use Rattle.lists.specs.Lists.{keep, All}
+use Rattle.lists.proofs.Lists.{all-back, keep-yes, keep-no}
+use Rattle.lists.proofs.Choices.{by-test, either}
 use Rattle.questions.specs.Outcome.{Outcome, accepted, refused}
 use Rattle.llc_rule.specs.Limits.{storeBytes}
-use Rattle.llc_rule.specs.Lists.{keep}
 use Rattle.llc_rule.specs.Records.{bytes, allBytes}
 use Rattle.llc_rule.specs.Link.{new}
 use Rattle.llc_rule.specs.Runs as Rule
 use Rattle.llc_rule.specs.Runs.{Exchange}
-use Rattle.llc_rule.specs.Sound.{All}
 use Rattle.llc_rule.specs.Sizes.{Fits}
-use Rattle.llc_rule.proofs.Lists.{by-test, either, all-back, keep-yes, keep-no}
 use Rattle.llc_rule.proofs.Records.{all-determined}
 use Rattle.llc_rule.proofs.Values.{IsByte}
 use Rattle.llc_rule.proofs.FitsRuns.{new-fits, fits-run}
-use Rattle.record_lines.specs.Split.{inLines, recordLines}
-use Rattle.record_lines.proofs.Records.{record-lines}
 use Rattle.llc_steps.specs.States.{Kept}
 use Rattle.llc_steps.specs.Answers.{delivered, laidOut}
 use Rattle.llc.specs.Entry.{answered, callOf}
+use Rattle.record_lines.specs.Split.{inLines, recordLines}
+use Rattle.record_lines.proofs.Records.{record-lines}
 use Rattle.llc_runs.specs.Runs.{Lent, Station, begin, left, recordsOf, given, exchange, run, after}
 use Rattle.llc_runs.specs.Heard.{wasHeard, heard, fits, fitting, putTo}
 use Rattle.llc_runs.specs.Outputs.{inOutput, ReadOff}

@@ -7,17 +7,17 @@ use mathlib.Core.List.{List, [], _∷_, _++_, map, map-append}
 use borrow.Author.Tests.{eqb-true, eqb-false, eq-eqb, ne-eqb}
 use lib.Dec.{eqb}
 use lib.ListN.{length}
+use Rattle.lists.specs.Lists.{keep, All}
+use Rattle.lists.proofs.Lists.{keep-yes, keep-no, keep-append}
+use Rattle.lists.proofs.Choices.{by-test}
+use Rattle.questions.specs.Outcome.{Outcome, accepted, refused}
 use Rattle.bits.specs.Bits.{bits}
 use Rattle.bits.proofs.Laws.{length-bits}
-use Rattle.questions.specs.Outcome.{Outcome, accepted, refused}
 use Rattle.llc_rule.specs.Limits.{storeBytes}
-use Rattle.llc_rule.specs.Lists.{keep}
 use Rattle.llc_rule.specs.Link.{Link, new}
 use Rattle.llc_rule.specs.Step.{step}
 use Rattle.llc_rule.specs.Runs as Rule
 use Rattle.llc_rule.specs.Runs.{Exchange}
-use Rattle.llc_rule.specs.Sound.{All}
-use Rattle.llc_rule.proofs.Lists.{by-test, keep-yes, keep-no, keep-append}
 use Rattle.llc_rule.proofs.Paths.{not-one}
 use Rattle.llc_state.specs.Ranges.{inRange}
 use Rattle.llc_state.proofs.Lengths.{Lengths}

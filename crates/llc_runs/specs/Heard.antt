@@ -4,8 +4,8 @@ use mathlib.Core.Bool.{Bool, cond, not}
 use mathlib.Core.List.{List, [], map}
 use lib.Dec.{eqb, leb}
 use lib.ListN.{length}
+use Rattle.lists.specs.Lists.{keep}
 use Rattle.llc_rule.specs.Limits.{outputBytes, storeBytes}
-use Rattle.llc_rule.specs.Lists.{keep}
 use Rattle.llc_rule.specs.Runs.{Exchange}
 use Rattle.llc_runs.specs.Runs.{Lent}
 

@@ -3,9 +3,9 @@ use Prim.Native.Nat.{ℕ}
 use mathlib.Core.Path.{_≡_}
 use mathlib.Core.List.{List, [], _∷_}
 use lib.ListN.{take}
+use Rattle.lists.specs.Lists.{All}
 use Rattle.llc_rule.specs.Records.{Record, allBytes}
 use Rattle.llc_rule.specs.Runs.{Exchange}
-use Rattle.llc_rule.specs.Sound.{All}
 use Rattle.llc_rule.specs.Sizes.{Fits}
 use Rattle.llc_steps.specs.Answers.{Effect}
 use Rattle.llc.specs.Entry.{callOf}

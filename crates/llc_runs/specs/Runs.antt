@@ -2,11 +2,11 @@
 -- which is empty and not started, and whatever store; each call gets the state and store that the last one left."
 use Prim.Native.Nat.{ℕ, _<_}
 use mathlib.Core.List.{List, [], _∷_}
-use Rattle.bits.specs.Bits.{bits}
+use Rattle.lists.specs.Lists.{All}
 use Rattle.questions.specs.Outcome.{Outcome, accepted, refused}
+use Rattle.bits.specs.Bits.{bits}
 use Rattle.llc_rule.specs.Records.{Record}
 use Rattle.llc_rule.specs.Runs.{Exchange}
-use Rattle.llc_rule.specs.Sound.{All}
 use Rattle.llc_state.specs.States.{newState}
 use Rattle.llc_state.specs.declared.State.{State}
 use Rattle.llc_steps.specs.States.{Kept}

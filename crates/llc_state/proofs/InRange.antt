@@ -1,19 +1,19 @@
 -- What question 1 tells of a state, part by part.
-use Prim.Native.Nat.{_≤_, _<_, ℕ, _+_}
+use Prim.Native.Nat.{_≤_, _<_, ℕ}
 use native.Mathlib.Omega.{arith}
 use mathlib.Core.Path.{_≡_, refl}
 use mathlib.Core.Bool.{Bool, true, false, _&&_}
 use borrow.Author.Tests.{leb-true, ltb-true, le-leb}
 use lib.Dec.{leb, ltb}
 use lib.ListN.{take}
+use Rattle.lists.specs.Lists.{all}
+use Rattle.lists.proofs.Choices.{both, and-true, clash}
 use Rattle.tdma_time.specs.Slots.{valid}
-use Rattle.llc_pdus.specs.Headers.{bdata, udata, ack, lengthOf}
-use Rattle.llc_pdus.specs.Writes.{longestOf, longestSent, longest}
-use Rattle.llc_rule.specs.Limits.{storePlaces}
 use Rattle.tdma_time.specs.declared.TdmaTime.{TdmaTime}
-use Rattle.llc_rule.specs.Lists.{all}
+use Rattle.llc_pdus.specs.Headers.{bdata, udata, ack, lengthOf}
+use Rattle.llc_pdus.specs.Writes.{longestOf, longestSent}
+use Rattle.llc_rule.specs.Limits.{storePlaces}
 use Rattle.llc_rule.specs.Ranges.{isType, isReceipt}
-use Rattle.llc_rule.proofs.Lists.{both, and-true, clash}
 use Rattle.llc_state.specs.Progress.{newProgress, submittedAfter, doneAt, withProgress}
 use Rattle.llc_state.specs.Ranges.{ifThere, isSsi, sentInRange, progressInRange, entryInRange, messageInRange, udataInRange, ackInRange, rowInRange, placeInRange, headInRange, inRange}
 use Rattle.llc_state.specs.declared.Progress.{Progress}

@@ -8,8 +8,8 @@ use mathlib.Core.Option.{none, some}
 use lib.Dec.{ltb}
 use lib.ListN.{take, length-map, length-take}
 use lib.Seq.{take-all}
+use Rattle.lists.specs.Lists.{all}
 use Rattle.tdma_time.specs.Slots.{valid, first}
-use Rattle.llc_rule.specs.Lists.{all}
 use Rattle.llc_rule.specs.Messages.{free, taken}
 use Rattle.llc_state.specs.Ranges.{ifThere, sentInRange, progressInRange, entryInRange, messageInRange, udataInRange, placeInRange, headInRange, inRange}
 use Rattle.llc_state.specs.States.{noProgress}

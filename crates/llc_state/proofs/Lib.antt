@@ -1,4 +1,3 @@
-pub mod AllLoops
 pub mod InRange
 pub mod InUse
 mod Lending

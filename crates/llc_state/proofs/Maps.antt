@@ -4,8 +4,8 @@ use mathlib.Core.Path.{_≡_, refl, sym, _∙_, ap}
 use mathlib.Core.Bool.{Bool, cond, _||_}
 use mathlib.Core.List.{List, [], _∷_, _++_, map}
 use lib.ListN.{set}
-use Rattle.llc_rule.specs.Lists.{any, Found, nothing, first, behind, find, others}
-use Rattle.llc_rule.proofs.Lists.{ap-cond}
+use Rattle.lists.specs.Lists.{any, Found, nothing, first, behind, find, others}
+use Rattle.lists.proofs.Choices.{ap-cond}
 
 module _ {A B : Type 0} (g : A → B) where
   pub map-append : (l m : List A) → map g (l ++ m) ≡ map g l ++ map g m

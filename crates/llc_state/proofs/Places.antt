@@ -6,20 +6,19 @@ use mathlib.Core.List.{List, map}
 use borrow.Author.Tests.{not-true, not-false}
 use lib.Dec.{eqb}
 use lib.ListN.{set, List·getD-map}
+use Rattle.lists.proofs.Choices.{if-true, if-false}
 use Rattle.tx_receipt.specs.Marks as Marks
 use Rattle.tx_receipt.specs.Marks.{Mark}
 use Rattle.tx_receipt.specs.declared.TxReceipt.{TxReceipt}
 use Rattle.tx_receipt.proofs.Laws.{numbered-number, made-by-number}
 use Rattle.llc_rule.specs.Messages.{free, taken, pending, taken?, marked, mark, placeAt}
 use Rattle.llc_rule.specs.Link.{withReceipts}
-use Rattle.llc_rule.proofs.Lists.{if-true, if-false}
-use Rattle.llc_state.specs.Ranges.{headInRange, inRange}
 use Rattle.llc_state.specs.Receipts.{receiptOf, withPlaces, takenBy, withReceipt, markedPlace, pendingPlace, placeOf, mark as markPlaces, markReceipt, takeReceipt, freeReceipt}
 use Rattle.llc_state.specs.States.{noReceipt}
 use Rattle.llc_state.specs.View.{placeIn, linkIn}
-use Rattle.llc_state.proofs.Maps.{map-set}
 use Rattle.llc_state.specs.declared.ReceiptPlace.{ReceiptPlace}
 use Rattle.llc_state.specs.declared.State.{State}
+use Rattle.llc_state.proofs.Maps.{map-set}
 
 -- A place that is not taken, and one that is.
 pub with-free : (r : TxReceipt) (p : ReceiptPlace) → not (p .taken) ≡ true → p ≡ withReceipt r p

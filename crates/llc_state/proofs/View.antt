@@ -4,9 +4,9 @@ use mathlib.Core.Path.{_≡_, refl}
 use mathlib.Core.Bool.{true}
 use mathlib.Core.List.{List}
 use lib.Dec.{ltb}
+use Rattle.lists.specs.Lists.{all}
 use Rattle.tdma_time.specs.Slots.{valid}
 use Rattle.tdma_time.specs.declared.TdmaTime.{TdmaTime}
-use Rattle.llc_rule.specs.Lists.{all}
 use Rattle.llc_rule.specs.Messages.{noReceipts}
 use Rattle.llc_rule.specs.Link.{new, startedWith, withTime}
 use Rattle.llc_state.specs.Ranges.{placeInRange, headInRange, inRange}

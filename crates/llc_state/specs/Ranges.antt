@@ -6,11 +6,11 @@ use Prim.Native.Nat.{ℕ}
 use mathlib.Core.Bool.{Bool, not, _&&_, _||_}
 use lib.Dec.{leb, ltb}
 use lib.ListN.{take}
+use Rattle.lists.specs.Lists.{all}
 use Rattle.tdma_time.specs.Slots.{valid}
 use Rattle.llc_pdus.specs.Headers.{bdata, udata, ack, lengthOf}
 use Rattle.llc_pdus.specs.Writes.{longestOf, longestSent}
 use Rattle.llc_rule.specs.Limits.{storePlaces}
-use Rattle.llc_rule.specs.Lists.{all}
 use Rattle.llc_rule.specs.Ranges.{isType, isReceipt}
 use Rattle.llc_state.specs.declared.TmaUnitdataReq.{TmaUnitdataReq}
 use Rattle.llc_state.specs.declared.Progress.{Progress}

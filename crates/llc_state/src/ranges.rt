@@ -2,7 +2,7 @@
 ghost use Prim.Native.Nat.{_≤_};
 ghost use mathlib.Core.Path.{_≡_};
 ghost use lib.ListN.{take};
-ghost use Rattle.llc_rule.specs.Lists.{all};
+ghost use Rattle.lists.specs.Lists.{all};
 ghost use Rattle.llc_state.specs.Ranges.{sentInRange, progressInRange, entryInRange, messageInRange, udataInRange, ackInRange, placeInRange, rowInRange, headInRange, inRange};
 use crate::Entry;
 use crate::LinkSendSeq;

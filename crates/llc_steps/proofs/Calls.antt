@@ -6,12 +6,13 @@ use mathlib.Core.List.{List, [], _∷_, map}
 use mathlib.Core.Option.{Option, none, some}
 use lib.Dec.{eqb, ltb}
 use lib.ListN.{length-map}
+use Rattle.lists.specs.Lists.{Found, nothing, first}
+use Rattle.lists.proofs.Choices.{ap-cond}
 use Rattle.questions.specs.Outcome.{Outcome, accepted, refused, ask}
 use Rattle.tx_receipt.specs.States.{is, final}
 use Rattle.tx_receipt.specs.Marks as Marks
 use Rattle.tx_receipt.specs.Marks.{allowed}
 use Rattle.tx_receipt.specs.declared.TxState.the-variants.{Pending}
-use Rattle.llc_rule.specs.Lists.{Found, nothing, first}
 use Rattle.llc_rule.specs.Calls.{Action, report, release, Frame}
 use Rattle.llc_rule.specs.Records.{Sent}
 use Rattle.llc_rule.specs.Received.{Received, nsOf, nrOf, upward}
@@ -20,15 +21,14 @@ use Rattle.llc_rule.specs.Messages.{Message, markOf}
 use Rattle.llc_rule.specs.Done.{Done, done}
 use Rattle.llc_rule.specs.Link as Link
 use Rattle.llc_rule.specs.Step as Step
-use Rattle.llc_rule.proofs.Lists.{ap-cond}
 use Rattle.llc_state.specs.View.{sentIn, messageIn, dueIn, linkIn}
 use Rattle.llc_state.specs.declared.Entry.{Entry}
 use Rattle.llc_state.specs.declared.State.{State}
-use Rattle.llc_steps.specs.States.{messagesOf, udataOf, acksOf, withMessages, withAcks, Kept}
 use Rattle.llc_state.specs.Receipts.{markReceipt}
 use Rattle.llc_state.proofs.Places.{taken-in, mark-receipt-in, free-receipt-in}
-use Rattle.llc_steps.specs.Calls.{ackRoom, scheduled, expected, fits, finishable, mayFinish, answeredBy, answered, onReceived, held, waits, onReport, onRelease, onReceipt}
 use Rattle.llc_state.proofs.Maps.{map-append, mapFound, find-map, any-map}
+use Rattle.llc_steps.specs.States.{messagesOf, udataOf, acksOf, withMessages, withAcks, Kept}
+use Rattle.llc_steps.specs.Calls.{ackRoom, scheduled, expected, fits, finishable, mayFinish, answeredBy, answered, onReceived, held, waits, onReport, onRelease, onReceipt}
 use Rattle.llc_steps.specs.Holds.{keptIn, Counted}
 use Rattle.llc_steps.proofs.Setters.{messages-in, acks-in}
 use Rattle.llc_steps.proofs.TickEnd.{has-time}

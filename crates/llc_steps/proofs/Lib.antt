@@ -6,7 +6,6 @@ pub mod Places
 pub mod Requests
 pub mod Steps
 pub mod Ready
-pub mod Laid
 pub mod Updates
 pub mod SaneSetters
 pub mod SaneTickEnd

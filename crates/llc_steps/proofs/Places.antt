@@ -9,12 +9,12 @@ use borrow.Author.Tests.{leb-true, leb-false, le-leb, lt-leb, eqb-true, eqb-fals
 use lib.Dec.{eqb, leb}
 use lib.ListN.{length, take, drop, length-append, length-map, length-drop}
 use lib.Seq.{drop-at, drop-append-le, drop-append-add, drop-drop, take-append-le, take-append-seam, length-take-le}
+use Rattle.lists.specs.Lists.{keep, any, among, All}
+use Rattle.lists.proofs.Lists.{any-append, length-keep, none-counted}
+use Rattle.lists.proofs.Choices.{by-test, neither, clash}
 use Rattle.bits.specs.Bits.{part, splice}
 use Rattle.bits.proofs.Laws.{part-take}
 use Rattle.llc_rule.specs.Limits.{placeBits, storeBytes, storePlaces}
-use Rattle.llc_rule.specs.Lists.{keep, any, among}
-use Rattle.llc_rule.specs.Sound.{All}
-use Rattle.llc_rule.proofs.Lists.{by-test, neither, clash, any-append, length-keep, none-counted}
 use Rattle.llc_state.specs.View.{placeBit, frameIn}
 use Rattle.llc_state.specs.declared.Entry.{Entry}
 use Rattle.llc_state.specs.declared.State.{State}

@@ -6,10 +6,9 @@ use mathlib.Core.Bool.{Bool, true}
 use mathlib.Core.List.{List, [], _∷_}
 use lib.ListN.{length}
 use lib.Seq.{length-take-le}
+use Rattle.lists.specs.Lists.{all, All}
+use Rattle.lists.proofs.Choices.{both}
 use Rattle.llc_rule.specs.Limits.{storeBytes}
-use Rattle.llc_rule.specs.Lists.{all}
-use Rattle.llc_rule.specs.Sound.{All}
-use Rattle.llc_rule.proofs.Lists.{both}
 use Rattle.llc_state.specs.Ranges.{messageInRange, udataInRange, inRange}
 use Rattle.llc_state.specs.declared.Entry.{Entry}
 use Rattle.llc_state.specs.declared.State.{State}

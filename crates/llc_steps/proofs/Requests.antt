@@ -8,14 +8,16 @@ use borrow.Author.Tests.{ltb-true}
 use lib.Dec.{eqb, ltb}
 use lib.ListN.{length, set, replicate, length-map}
 use lib.Seq.{take-append-seam}
-use Rattle.bits.specs.Bits.{splice}
+use Rattle.lists.specs.Lists.{Found, nothing, first, others, All}
+use Rattle.lists.proofs.Lists.{all-map}
+use Rattle.lists.proofs.Choices.{by-test, ap-cond}
 use Rattle.questions.specs.Outcome.{accepted}
+use Rattle.bits.specs.Bits.{splice}
 use Rattle.llc_pdus.specs.Writes.{longest, frameBits}
 use Rattle.llc_pdus.specs.declared.Pdu.{Pdu}
-use Rattle.llc_pdus.proofs.Framing.{frame-short}
 use Rattle.llc_pdus.specs.declared.Pdu.the-variants.{BlUdata, BlAck}
+use Rattle.llc_pdus.proofs.Framing.{frame-short}
 use Rattle.llc_rule.specs.Limits.{placeBits, storePlaces}
-use Rattle.llc_rule.specs.Lists.{Found, nothing, first, others}
 use Rattle.llc_rule.specs.Calls.{Service, tlData, tlUnitdata, Request}
 use Rattle.llc_rule.specs.Ranges.{steals, wantsFcs}
 use Rattle.llc_rule.specs.Records.{Sent}
@@ -25,8 +27,6 @@ use Rattle.llc_rule.specs.Done.{done}
 use Rattle.llc_rule.specs.Link as Link
 use Rattle.llc_rule.specs.Step as Step
 use Rattle.llc_rule.specs.Step.{onAcknowledgedPath}
-use Rattle.llc_rule.specs.Sound.{All}
-use Rattle.llc_rule.proofs.Lists.{by-test, ap-cond, all-map}
 use Rattle.llc_state.specs.Progress.{newProgress}
 use Rattle.llc_state.specs.View.{placeBit, frameIn, sentWith, sentIn, messageWith, messageIn, dueIn, placeIn, rowIn, linkIn}
 use Rattle.llc_state.specs.declared.Entry.{Entry}
@@ -34,15 +34,15 @@ use Rattle.llc_state.specs.declared.ScheduledOutAck.{ScheduledOutAck}
 use Rattle.llc_state.specs.declared.ReceiptPlace.{ReceiptPlace}
 use Rattle.llc_state.specs.declared.LinkSendSeq.{LinkSendSeq}
 use Rattle.llc_state.specs.declared.State.{State}
+use Rattle.llc_state.specs.Receipts.{takeReceipt, placeOf}
+use Rattle.llc_state.proofs.Maps.{map-append, mapFound, find-map, any-map, others-map}
+use Rattle.llc_state.proofs.Places.{place-in, take-receipt-in}
 use Rattle.llc_steps.specs.States.{messagesOf, udataOf, acksOf, rowsOf, withMessages, withUdata, withAcks}
 use Rattle.llc_steps.specs.Places.{freePlace}
 use Rattle.llc_steps.specs.Calls.{entryOf, carrierFor, ackFor, seqOf, withSeq, dataPdu, withAcknowledged, withUnacknowledged, withStolen, receiptFree, rowFor, onData, onUnitdata, onRequest}
-use Rattle.llc_state.specs.Receipts.{takeReceipt, placeOf}
-use Rattle.llc_state.proofs.Maps.{map-append, mapFound, find-map, any-map, others-map}
 use Rattle.llc_steps.specs.Holds.{keptIn, Stored, Ready}
 use Rattle.llc_steps.proofs.Setters.{messages-in, udata-in, acks-in, rows-in}
 use Rattle.llc_steps.proofs.Places.{free-place, part-there, frame-elsewhere}
-use Rattle.llc_state.proofs.Places.{place-in, take-receipt-in}
 use Rattle.llc_steps.proofs.Calls.{kept-ask}
 
 -- Rows.

@@ -9,6 +9,9 @@ use borrow.Author.Tests.{ltb-true, lt-ltb, le-leb}
 use lib.Dec.{leb}
 use lib.IntN.{negsuc}
 use lib.ListN.{length}
+use Rattle.lists.specs.Lists.{Found, nothing, first}
+use Rattle.lists.proofs.Lists.{FoundBy, find-by}
+use Rattle.lists.proofs.Choices.{both, either}
 use Rattle.questions.specs.Outcome.{Outcome, accepted, refused}
 use Rattle.questions.proofs.Asked.{by-question}
 use Rattle.tdma_time.specs.Slots.{plus}
@@ -19,12 +22,10 @@ use Rattle.tx_receipt.specs.States.{is, final}
 use Rattle.tx_receipt.specs.Marks as Marks
 use Rattle.tx_receipt.specs.declared.TxState.the-variants.{Pending}
 use Rattle.llc_rule.specs.Limits.{longestFrame}
-use Rattle.llc_rule.specs.Lists.{Found, nothing, first}
 use Rattle.llc_rule.specs.Calls.{Action, report, release, Frame}
 use Rattle.llc_rule.specs.Messages.{slotBefore, markOf}
 use Rattle.llc_rule.specs.Ranges.{isType, frameInRange}
 use Rattle.llc_rule.specs.Received.{Received, nsOf, nrOf}
-use Rattle.llc_rule.proofs.Lists.{both, either, FoundBy, find-by}
 use Rattle.llc_state.specs.Ranges.{ackInRange, messageInRange}
 use Rattle.llc_state.specs.Receipts.{receiptOf, placeOf}
 use Rattle.llc_state.specs.declared.Entry.{Entry}

@@ -7,22 +7,22 @@ use mathlib.Core.List.{List, [], _∷_}
 use borrow.Author.Tests.{ltb-true, lt-ltb}
 use lib.Dec.{eqb, ltb}
 use lib.ListN.{length}
+use Rattle.lists.specs.Lists.{any, Found, nothing, first, others, All}
+use Rattle.lists.proofs.Lists.{find-by}
+use Rattle.lists.proofs.Choices.{by-test, by-choice, either}
+use Rattle.questions.specs.Outcome.{accepted}
+use Rattle.questions.proofs.Asked.{by-question}
 use Rattle.bits.specs.Bits.{splice}
 use Rattle.bits.proofs.Laws.{length-splice}
-use Rattle.questions.specs.Outcome.{accepted}
 use Rattle.llc_pdus.specs.Headers.{header, bdata, udata, ack, lengthOf}
 use Rattle.llc_pdus.specs.Writes.{longest, frameBits}
-use Rattle.questions.proofs.Asked.{by-question}
 use Rattle.llc_pdus.specs.declared.Pdu.{Pdu}
 use Rattle.llc_pdus.specs.declared.Pdu.the-variants.{BlUdata, BlAck}
 use Rattle.llc_pdus.proofs.Framing.{frame-least, frame-most, frame-short}
 use Rattle.llc_rule.specs.Limits.{storePlaces}
-use Rattle.llc_rule.specs.Lists.{any, Found, nothing, first, others}
 use Rattle.llc_rule.specs.Calls.{Service, tlData, tlUnitdata, Request}
 use Rattle.llc_rule.specs.Ranges.{steals, wantsFcs, hasMask, requestInRange}
-use Rattle.llc_rule.specs.Sound.{All}
 use Rattle.llc_rule.specs.Step.{onAcknowledgedPath}
-use Rattle.llc_rule.proofs.Lists.{by-test, by-choice, either, find-by}
 use Rattle.llc_rule.proofs.Ranges.{request-fields, request-lengths}
 use Rattle.llc_state.specs.Ranges.{sentInRange, entryInRange, messageInRange, udataInRange, ackInRange, rowInRange}
 use Rattle.llc_state.specs.View.{placeBit}

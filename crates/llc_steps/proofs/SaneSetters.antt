@@ -1,5 +1,5 @@
 -- A state that passed question 1 passes it with other elements in use that are in range.
-use Prim.Native.Nat.{ℕ, zero, suc, _*_, _≤_}
+use Prim.Native.Nat.{ℕ, suc, _*_, _≤_}
 use native.Mathlib.Omega.{arith}
 use mathlib.Core.Path.{_≡_, _∙_, refl, ap}
 use mathlib.Core.Bool.{Bool, true}
@@ -7,15 +7,17 @@ use mathlib.Core.List.{List, [], _∷_, _++_}
 use lib.Dec.{ltb}
 use lib.ListN.{length, set, take, length-append, length-set}
 use lib.Seq.{length-take-le}
+use Rattle.lists.specs.Lists.{all, Found, nothing, first, others, All}
+use Rattle.lists.specs.Arrays.{laid}
+use Rattle.lists.proofs.Lists.{all-append, Split, FoundBy, all-middle}
+use Rattle.lists.proofs.Arrays.{length-laid, take-laid}
+use Rattle.lists.proofs.Choices.{by-test}
+use Rattle.lists.proofs.Tests.{all-each, each-all, all-set}
 use Rattle.tx_receipt.specs.States.{number}
 use Rattle.tx_receipt.specs.Marks.{Mark, marked}
 use Rattle.tx_receipt.specs.declared.TxState.{TxState}
 use Rattle.tx_receipt.specs.declared.TxState.the-variants.{Pending, Discarded, Transmitted, Lost, Acknowledged}
 use Rattle.llc_rule.specs.Limits.{storeBytes}
-use Rattle.llc_rule.specs.Lists.{all, Found, nothing, first, others}
-use Rattle.llc_rule.specs.Sound.{All}
-use Rattle.llc_rule.proofs.Lists.{by-test, both, and-true, all-append, Split, FoundBy}
-use Rattle.llc_rule.proofs.SoundLists.{all-middle}
 use Rattle.llc_state.specs.Ranges.{ackInRange, rowInRange, placeInRange, messageInRange, udataInRange}
 use Rattle.llc_state.specs.Receipts.{withPlaces, receiptOf, placeOf, pendingPlace, markedPlace, mark}
 use Rattle.llc_state.specs.States.{noEntry, noAck, noReceipt, noRow}
@@ -25,13 +27,10 @@ use Rattle.llc_state.specs.declared.ReceiptPlace.{ReceiptPlace}
 use Rattle.llc_state.specs.declared.LinkSendSeq.{LinkSendSeq}
 use Rattle.llc_state.specs.declared.State.{State}
 use Rattle.llc_state.proofs.InRange.{range-tells, in-range}
-use Rattle.llc_steps.specs.Arrays.{laid}
 use Rattle.llc_steps.specs.States.{messagesOf, udataOf, acksOf, rowsOf, withMessages, withUdata, withAcks, withRows}
 use Rattle.llc_steps.specs.Holds.{Ready}
 use Rattle.llc_steps.specs.Sane.{Sane}
-use Rattle.llc_steps.proofs.Setters.{take-laid}
 use Rattle.llc_steps.proofs.Ready.{ready}
-use Rattle.llc_steps.proofs.Laid.{length-laid}
 
 -- Elements in use ---------------------------------------------------------------------------------------------------------
 
@@ -41,20 +40,9 @@ module _ {A : Type 0} (p : A → Bool) where
     pub few : length l ≤ k
     pub each : All (λ (x : A). p x ≡ true) l
 
-  -- One test after the other, and all at once.
-  all-each : (l : List A) → all p l ≡ true → All (λ (x : A). p x ≡ true) l
-  unfolding all
-  all-each [] h = tt
-  all-each (x ∷ l) h = let t = both {x = p x} {y = all p l} h in (t .0, all-each l (t .1))
-
-  each-all : (l : List A) → All (λ (x : A). p x ≡ true) l → all p l ≡ true
-  unfolding all
-  each-all [] a = refl
-  each-all (x ∷ l) a = and-true (a .0) (each-all l (a .1))
-
   -- The first n of an array.
   used-first : (k n : ℕ) (l : List A) → length l ≡ k → n ≤ k → all p (take n l) ≡ true → Used k (take n l)
-  used-first k n l long h a = record { few = omega (arith, length-take-le n l (omega arith)); each = all-each (take n l) a }
+  used-first k n l long h a = record { few = omega (arith, length-take-le n l (omega arith)); each = all-each p (take n l) a }
 
   -- None; one more, put last; those with the one that was found at the front, and those without it.
   pub none-used : (k : ℕ) → Used k []
@@ -99,7 +87,7 @@ module _ {A : Type 0} (p : A → Bool) where
   laid-used empty k n used l long h u =
       record {
         long = length-laid empty n used l (omega arith) (omega (arith, u .few)) ∙ long;
-        each = ap (all p) (take-laid empty n used l) ∙ each-all used (u .each);
+        each = ap (all p) (take-laid empty n used l) ∙ each-all p used (u .each);
       }
 
 -- Receipts' places --------------------------------------------------------------------------------------------------------
@@ -108,13 +96,6 @@ module _ {A : Type 0} (p : A → Bool) where
 pub record Full (ps : List ReceiptPlace) : Type 0 where
   pub long : length ps ≡ 128
   pub each : all placeInRange ps ≡ true
-
-all-set : {A : Type 0} (p : A → Bool) (l : List A) (i : ℕ) (x : A) → p x ≡ true → all p l ≡ true → all p (set l i x) ≡ true
-unfolding all
-all-set p [] i x e h = refl
-all-set p (y ∷ l) zero x e h = and-true e (both {x = p y} {y = all p l} h .1)
-all-set p (y ∷ l) (suc i) x e h =
-    let t = both {x = p y} {y = all p l} h in and-true (t .0) (all-set p l i x e (t .1))
 
 pub set-full : (i : ℕ) (x : ReceiptPlace) (ps : List ReceiptPlace) → placeInRange x ≡ true → Full ps → Full (set ps i x)
 set-full i x ps e f = record { long = length-set ps i x ∙ f .long; each = all-set placeInRange ps i x e (f .each) }

@@ -7,13 +7,13 @@ use mathlib.Core.List.{List, [], _∷_}
 use borrow.Author.Tests.{ltb-true}
 use lib.Dec.{ltb}
 use lib.ListN.{length, length-append}
+use Rattle.lists.specs.Lists.{among, Visit, walk, All}
+use Rattle.lists.proofs.Lists.{all-append}
+use Rattle.lists.proofs.Choices.{by-choice, either}
 use Rattle.tdma_time.specs.Slots.{valid}
 use Rattle.tdma_time.specs.declared.TdmaTime.{TdmaTime}
 use Rattle.tx_receipt.specs.Marks as Marks
-use Rattle.llc_rule.specs.Lists.{among, Visit, walk}
 use Rattle.llc_rule.specs.Messages.{overdue, reported}
-use Rattle.llc_rule.specs.Sound.{All}
-use Rattle.llc_rule.proofs.Lists.{by-choice, either, all-append}
 use Rattle.llc_state.specs.Progress.{submittedAfter, doneAt, withProgress}
 use Rattle.llc_state.specs.Ranges.{messageInRange}
 use Rattle.llc_state.specs.Receipts.{receiptOf, placeOf}

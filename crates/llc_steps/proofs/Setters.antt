@@ -1,9 +1,8 @@
 -- What a state with other elements in use holds, as a link.
-use Prim.Native.Nat.{ℕ, _-_, max}
+use Prim.Native.Nat.{ℕ, _-_}
 use mathlib.Core.Path.{_≡_, refl, ap}
-use mathlib.Core.List.{List, _++_, map}
-use lib.ListN.{length, take, drop, replicate}
-use lib.Seq.{take-append-seam}
+use mathlib.Core.List.{List, map}
+use Rattle.lists.proofs.Arrays.{take-laid}
 use Rattle.llc_rule.specs.Link as Link
 use Rattle.llc_state.specs.Receipts.{withPlaces}
 use Rattle.llc_state.specs.View.{sentIn, messageIn, dueIn, placeIn, rowIn, linkIn}
@@ -12,14 +11,8 @@ use Rattle.llc_state.specs.declared.ScheduledOutAck.{ScheduledOutAck}
 use Rattle.llc_state.specs.declared.ReceiptPlace.{ReceiptPlace}
 use Rattle.llc_state.specs.declared.LinkSendSeq.{LinkSendSeq}
 use Rattle.llc_state.specs.declared.State.{State}
-use Rattle.llc_steps.specs.Arrays.{laid}
 use Rattle.llc_state.specs.States.{noEntry, noAck, noRow}
 use Rattle.llc_steps.specs.States.{withMessages, withUdata, withAcks, withRows}
-
--- The elements in use are the first of the array.
-pub take-laid : {A : Type 0} (empty : A) (n : ℕ) (used l : List A) → take (length used) (laid empty n used l) ≡ used
-unfolding laid
-take-laid empty n used l = take-append-seam used (replicate (n - length used) empty ++ drop (max n (length used)) l)
 
 -- Each setter of the state is the setter of the link.
 module _ (s : State) (store : List ℕ) where

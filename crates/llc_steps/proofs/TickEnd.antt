@@ -6,26 +6,26 @@ use mathlib.Core.Bool.{Bool, true, false, cond, not, _&&_}
 use mathlib.Core.List.{List, [], _∷_, _++_, map}
 use mathlib.Core.Option.{none, some}
 use lib.Dec.{ltb}
+use Rattle.lists.specs.Lists.{among, Visit, _then_, walk}
+use Rattle.lists.proofs.Choices.{ap-cond}
 use Rattle.tdma_time.specs.declared.TdmaTime.{TdmaTime}
 use Rattle.tx_receipt.specs.Marks as Marks
-use Rattle.llc_rule.specs.Lists.{among, Visit, _then_, walk}
 use Rattle.llc_rule.specs.Records.{Record, acknowledged, unacknowledged}
 use Rattle.llc_rule.specs.Messages as Rule
 use Rattle.llc_rule.specs.Messages.{Message, Place, overdue, reported, replyTo}
 use Rattle.llc_rule.specs.Link as Link
 use Rattle.llc_rule.specs.Step as Step
-use Rattle.llc_rule.proofs.Lists.{ap-cond}
 use Rattle.llc_state.specs.Progress.{doneAt, withProgress}
 use Rattle.llc_state.specs.View.{frameIn, sentIn, messageIn, dueIn, placeIn, linkIn}
 use Rattle.llc_state.specs.declared.Entry.{Entry}
 use Rattle.llc_state.specs.declared.ReceiptPlace.{ReceiptPlace}
 use Rattle.llc_state.specs.declared.State.{State}
-use Rattle.llc_steps.specs.States.{messagesOf, udataOf, acksOf, withMessages, withUdata, withAcks}
 use Rattle.llc_state.specs.Receipts.{receiptOf, placeOf, mark}
 use Rattle.llc_state.proofs.Places.{mark-in, taken-in}
 use Rattle.llc_state.proofs.Maps.{map-append, map-map}
-use Rattle.llc_steps.proofs.Setters.{messages-in, udata-in, acks-in, places-in}
+use Rattle.llc_steps.specs.States.{messagesOf, udataOf, acksOf, withMessages, withUdata, withAcks}
 use Rattle.llc_steps.specs.TickEnd.{submitted, timed, stay, resend, leave, aged, retransmission, Sending, firstSending, retransmissions, firstSendings, ticked, tickRecords}
+use Rattle.llc_steps.proofs.Setters.{messages-in, udata-in, acks-in, places-in}
 
 -- A walk seen through views of its state, its elements and what it puts out.
 module _ {S T A B R Q : Type 0} (state : S → T) (element : A → B) (put : R → Q) where

@@ -5,13 +5,13 @@ use mathlib.Core.Path.{_≡_, ap₂}
 use mathlib.Core.Bool.{true}
 use lib.ListN.{length}
 use lib.Seq.{length-take-le}
+use Rattle.lists.proofs.Arrays.{laid-same}
 use Rattle.llc_state.specs.declared.State.{State}
 use Rattle.llc_state.specs.Ranges.{inRange}
 use Rattle.llc_state.specs.States.{noAck}
 use Rattle.llc_state.proofs.InRange.{range-tells}
 use Rattle.llc_state.proofs.Lengths.{Lengths}
 use Rattle.llc_steps.specs.States.{acksOf, putAcks, withAcks}
-use Rattle.llc_steps.proofs.Laid.{laid-same}
 
 -- A state whose acknowledgements due are as they were is as it was.
 pub same-acks : (s : State) → s .«n_acks» ≤ length (s .«scheduled_out_acks») → withAcks s (acksOf s) ≡ s

@@ -5,8 +5,10 @@ use mathlib.Core.List.{List, [], _∷_, _++_}
 use mathlib.Core.Option.{Option, none, some}
 use lib.Dec.{eqb, ltb}
 use lib.ListN.{length, set, replicate}
-use Rattle.bits.specs.Bits.{splice}
+use Rattle.lists.specs.Lists as Lists
+use Rattle.lists.specs.Lists.{any, Found, nothing, find, others}
 use Rattle.questions.specs.Outcome.{Outcome, accepted, refused, ask}
+use Rattle.bits.specs.Bits.{splice}
 use Rattle.tx_receipt.specs.States.{is, final}
 use Rattle.tx_receipt.specs.Marks as Marks
 use Rattle.tx_receipt.specs.Marks.{allowed}
@@ -14,8 +16,6 @@ use Rattle.tx_receipt.specs.declared.TxState.the-variants.{Pending}
 use Rattle.llc_pdus.specs.Writes.{frameBits}
 use Rattle.llc_pdus.specs.declared.Pdu.{Pdu}
 use Rattle.llc_pdus.specs.declared.Pdu.the-variants.{BlAdata, BlData, BlUdata, BlAck}
-use Rattle.llc_rule.specs.Lists as Lists
-use Rattle.llc_rule.specs.Lists.{any, Found, nothing, find, others}
 use Rattle.llc_rule.specs.Calls.{Service, tlData, tlUnitdata, Action, report, release, Request, Frame}
 use Rattle.llc_rule.specs.Ranges.{steals, wantsFcs, hasMask}
 use Rattle.llc_rule.specs.Received.{Received, nsOf, nrOf, upward}

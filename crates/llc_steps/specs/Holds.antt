@@ -3,12 +3,12 @@ use Prim.Native.Nat.{ℕ, _*_, _≤_, _<_}
 use mathlib.Core.Path.{_≡_}
 use mathlib.Core.List.{List}
 use lib.ListN.{length}
+use Rattle.lists.specs.Lists.{All}
 use Rattle.questions.specs.Outcome.{Outcome, accepted, refused}
 use Rattle.llc_pdus.specs.Writes.{longestSent}
 use Rattle.llc_rule.specs.Limits.{storeBytes, storePlaces}
 use Rattle.llc_rule.specs.Done.{Done, done}
 use Rattle.llc_rule.specs.Link.{Link}
-use Rattle.llc_rule.specs.Sound.{All}
 use Rattle.llc_state.specs.View.{linkIn}
 use Rattle.llc_state.specs.declared.Entry.{Entry}
 use Rattle.llc_state.specs.declared.State.{State}

@@ -1,6 +1,4 @@
-pub mod Arrays
 pub mod States
-pub mod Queues
 pub mod TickEnd
 pub mod Places
 pub mod Calls

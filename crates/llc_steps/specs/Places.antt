@@ -3,8 +3,8 @@ use Prim.Native.Nat.{ℕ, zero, suc}
 use mathlib.Core.Bool.{cond}
 use mathlib.Core.List.{List, _++_, map}
 use lib.ListN.{take}
+use Rattle.lists.specs.Lists.{among}
 use Rattle.llc_rule.specs.Limits.{storePlaces}
-use Rattle.llc_rule.specs.Lists.{among}
 use Rattle.llc_state.specs.declared.Entry.{Entry}
 use Rattle.llc_state.specs.declared.State.{State}
 

@@ -2,13 +2,13 @@
 use Prim.Native.Nat.{ℕ}
 use mathlib.Core.List.{List}
 use lib.ListN.{length, take}
+use Rattle.lists.specs.Arrays.{laid}
 use Rattle.llc_rule.specs.Records.{Record}
 use Rattle.llc_state.specs.declared.Entry.{Entry}
 use Rattle.llc_state.specs.declared.ScheduledOutAck.{ScheduledOutAck}
 use Rattle.llc_state.specs.declared.LinkSendSeq.{LinkSendSeq}
 use Rattle.llc_state.specs.declared.State.{State}
 use Rattle.llc_state.specs.States.{noEntry, noAck, noRow}
-use Rattle.llc_steps.specs.Arrays.{laid}
 
 -- What of the arrays is in use.
 abbrev pub messagesOf : State → List Entry

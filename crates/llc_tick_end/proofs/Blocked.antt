@@ -8,7 +8,7 @@ use borrow.Author.Tests.{eq-eqb, ne-eqb}
 use lib.Dec.{eqb}
 use lib.ListN.{length, getD, set, drop, replicate, length-set, drop-of-length-le}
 use lib.Seq.{drop-cons, drop-set-lt, getD-set-same}
-use Rattle.llc_rule.specs.Lists.{any, among}
+use Rattle.lists.specs.Lists.{any, among}
 
 -- Those of the array from k on are the blocked ones, at most one for each turn before i.
 pub record Filled (ssis : List ℕ) (k i : ℕ) (blocked : List ℕ) : Type 0 where

@@ -6,7 +6,7 @@ use mathlib.Core.Path.{_≡_, _∙_, refl, sym, ap, ap₂}
 use mathlib.Core.List.{List, [], _∷_, _++_, append-assoc, append-nil}
 use lib.ListN.{length, getD, set, take, drop, replicate, length-append, length-set, take-append-drop, replicate-append-replicate}
 use lib.Seq.{length-take-le, take-suc-set, drop-set-lt, drop-drop, getD-drop}
-use Rattle.llc_steps.specs.Arrays.{laid}
+use Rattle.lists.specs.Arrays.{laid}
 
 module _ {A : Type 0} where
   -- Of the array l₀ those before i were visited: stays stand in the first j places, and those from i on are as they were.

@@ -5,10 +5,10 @@ use mathlib.Core.Path.{_≡_, refl, sym, _∙_, ap}
 use mathlib.Core.List.{List, [], _∷_, _++_, map}
 use lib.ListN.{length, drop, getD, set, replicate, length-replicate}
 use lib.Seq.{getD-append-add, getD-drop}
+use Rattle.lists.specs.Writes.{Wrote}
+use Rattle.lists.proofs.Arrays.{laid-none}
 use Rattle.llc_rule.specs.Records.{Record, bytes, allBytes}
-use Rattle.llc_records.specs.Wrote.{Wrote}
 use Rattle.llc_state.specs.declared.State.{State}
-use Rattle.llc_steps.proofs.Laid.{laid-none}
 use Rattle.llc_queues.proofs.Arrays.{Array, used, holding}
 use Rattle.llc_queues.proofs.Shifting.{set-behind, stored, stored-same}
 use Rattle.llc_tick_end.proofs.Handing.{Handing, hands, next-room, hands-on, handed}

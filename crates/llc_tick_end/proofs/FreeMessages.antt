@@ -6,12 +6,14 @@ use mathlib.Core.Bool.{Bool, true, false, cond}
 use mathlib.Core.List.{List, [], _∷_, _++_, append-nil}
 use lib.ListN.{length, getD, set, drop, replicate, length-append}
 use lib.Seq.{getD-take, length-take-le}
+use Rattle.lists.specs.Lists.{all, among, Visit, _then_, walk}
+use Rattle.lists.specs.Arrays.{laid}
+use Rattle.lists.specs.Writes.{Wrote}
+use Rattle.lists.proofs.Writes.{_⨾_, as-long, same-bytes, wrote-none}
+use Rattle.lists.proofs.Choices.{if-true, if-false}
+use Rattle.lists.proofs.Tests.{used-at}
 use Rattle.tx_receipt.specs.Marks.{reset}
-use Rattle.llc_rule.specs.Lists.{all, among, Visit, _then_, walk}
 use Rattle.llc_rule.specs.Records.{allBytes, sentBytes}
-use Rattle.llc_rule.proofs.Lists.{if-true, if-false}
-use Rattle.llc_records.specs.Wrote.{Wrote}
-use Rattle.llc_records.proofs.Wrote.{_⨾_, as-long, same-bytes, wrote-none}
 use Rattle.llc_state.specs.Ranges.{messageInRange}
 use Rattle.llc_state.specs.Receipts.{withPlaces, markedPlace, placeOf, mark}
 use Rattle.llc_state.specs.States.{noEntry}
@@ -19,12 +21,11 @@ use Rattle.llc_state.specs.View.{sentIn}
 use Rattle.llc_state.specs.declared.Entry.{Entry}
 use Rattle.llc_state.specs.declared.ReceiptPlace.{ReceiptPlace}
 use Rattle.llc_state.specs.declared.State.{State}
-use Rattle.llc_steps.specs.Arrays.{laid}
 use Rattle.llc_steps.specs.States.{messagesOf, withMessages, putMessages}
 use Rattle.llc_steps.specs.TickEnd.{submitted, stay, Sending, firstSending}
 use Rattle.llc_tick_end.specs.Passes.{sentBytesOf, sendings, afterSendings}
 use Rattle.llc_tick_end.proofs.Blocked.{Filled, none-yet, as-before, one-more}
-use Rattle.llc_tick_end.proofs.Entries.{Measures, message-measures, used-at}
+use Rattle.llc_tick_end.proofs.Entries.{Measures, message-measures}
 use Rattle.llc_tick_end.proofs.InPlace.{next-is, next-left, next-set, laid-over}
 use Rattle.llc_tick_end.proofs.Clearing.{withArrays}
 use Rattle.llc_tick_end.proofs.SentBytes.{sent-append, sent-more}

@@ -5,9 +5,9 @@ use mathlib.Core.Path.{_≡_, _∙_, sym, ap, ap₂}
 use mathlib.Core.List.{List, [], _++_, map}
 use lib.ListN.{length, getD, take, length-append}
 use lib.Seq.{slice, slice-empty, slice-cons}
+use Rattle.lists.specs.Writes.{write, Wrote}
+use Rattle.lists.proofs.Writes.{write-append, as-long, Left, begins, ends}
 use Rattle.llc_rule.specs.Records.{Record, bytes, allBytes}
-use Rattle.llc_records.specs.Wrote.{write, Wrote}
-use Rattle.llc_records.proofs.Wrote.{write-append, as-long, Left, begins, ends}
 
 -- Several bytes of what is left are written.
 writes-on :

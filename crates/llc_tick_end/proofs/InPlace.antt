@@ -5,7 +5,7 @@ use mathlib.Core.Path.{_≡_, _∙_, sym, ap}
 use mathlib.Core.List.{List, [], _∷_, _++_, append-assoc}
 use lib.ListN.{length, getD, set, drop}
 use lib.Seq.{drop-cons, getD-at, set-at}
-use Rattle.llc_steps.specs.Arrays.{laid}
+use Rattle.lists.specs.Arrays.{laid}
 
 module _ {A : Type 0} where
   module _ (p l : List A) (i : ℕ) (d : A) (e : length p ≡ i) (h : i < length l) where

@@ -8,15 +8,16 @@ use borrow.Author.Tests.{lt-ltb, le-ltb}
 use lib.Dec.{ltb}
 use lib.ListN.{length, getD, set, length-set}
 use lib.Seq.{length-take-le, getD-take}
+use Rattle.lists.specs.Lists.{Visit, _then_}
+use Rattle.lists.specs.Writes.{Wrote}
+use Rattle.lists.proofs.Writes.{_⨾_, same-bytes, wrote-none, as-long}
+use Rattle.lists.proofs.Choices.{either, if-true, if-false}
+use Rattle.lists.proofs.Tests.{all-at}
 use Rattle.bits.specs.Bits.{bits}
 use Rattle.tdma_time.specs.Slots.{valid}
 use Rattle.tdma_time.specs.declared.TdmaTime.{TdmaTime}
 use Rattle.tx_receipt.specs.Marks.{lost, reset}
-use Rattle.llc_rule.specs.Lists.{Visit, _then_}
 use Rattle.llc_rule.specs.Records.{sentBytes}
-use Rattle.llc_rule.proofs.Lists.{either, if-true, if-false}
-use Rattle.llc_records.specs.Wrote.{Wrote}
-use Rattle.llc_records.proofs.Wrote.{_⨾_, same-bytes, wrote-none, as-long}
 use Rattle.llc_state.specs.Progress.{doneAt, withProgress}
 use Rattle.llc_state.specs.Ranges.{inRange, ifThere, messageInRange}
 use Rattle.llc_state.specs.Receipts.{withPlaces, markedPlace, placeOf, mark}
@@ -33,7 +34,7 @@ use Rattle.llc_tick_end.specs.Passes.{sentBytesOf, afterRetransmissions}
 use Rattle.llc_tick_end.specs.Retransmissions.{newlyDone, timedBy, isDue}
 use Rattle.llc_tick_end.proofs.Clearing.{withArrays, withCount, Clearing, clears, cleared}
 use Rattle.llc_tick_end.proofs.Compacting.{Compacting, compacts, as-was, goes, keeps}
-use Rattle.llc_tick_end.proofs.Entries.{all-at, Measures, message-measures}
+use Rattle.llc_tick_end.proofs.Entries.{Measures, message-measures}
 use Rattle.llc_tick_end.proofs.SentBytes.{sent-none, sent-more, sent-room}
 use Rattle.llc_tick_end.proofs.Walking.{Walking, walks, walks-on, walked, put-out}
 

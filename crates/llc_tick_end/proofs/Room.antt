@@ -5,13 +5,13 @@ use mathlib.Core.Path.{_≡_, _∙_}
 use mathlib.Core.Bool.{Bool, true}
 use mathlib.Core.List.{List, [], _∷_, map}
 use lib.ListN.{length, take, drop, length-map, length-take}
+use Rattle.lists.specs.Lists.{all, All}
+use Rattle.lists.proofs.Choices.{both}
 use Rattle.llc_rule.specs.Limits.{outputBytes}
-use Rattle.llc_rule.specs.Lists.{all}
 use Rattle.llc_rule.specs.Messages.{Message}
 use Rattle.llc_rule.specs.Records.{allBytes}
 use Rattle.llc_rule.specs.Sizes.{SmallSent, Small}
-use Rattle.llc_rule.specs.Sound.{All, Within}
-use Rattle.llc_rule.proofs.Lists.{both}
+use Rattle.llc_rule.specs.Sound.{Within}
 use Rattle.llc_rule.proofs.Room.{tick-end-room}
 use Rattle.llc_state.specs.Ranges.{messageInRange, udataInRange, inRange}
 use Rattle.llc_state.specs.View.{placeBit, frameIn, sentIn, messageIn, dueIn, placeIn, rowIn, linkIn}

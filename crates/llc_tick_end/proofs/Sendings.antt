@@ -3,8 +3,8 @@ use native.Mathlib.Omega.{arith}
 use mathlib.Core.Path.{_≡_, refl}
 use mathlib.Core.List.{List, [], _∷_}
 use lib.ListN.{length, length-append}
-use Rattle.llc_rule.specs.Lists.{among, Visit, walk}
-use Rattle.llc_rule.proofs.Lists.{either}
+use Rattle.lists.specs.Lists.{among, Visit, walk}
+use Rattle.lists.proofs.Choices.{either}
 use Rattle.llc_state.specs.declared.Entry.{Entry}
 use Rattle.llc_state.specs.declared.State.{State}
 use Rattle.llc_steps.specs.States.{messagesOf}

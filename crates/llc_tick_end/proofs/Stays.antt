@@ -3,15 +3,16 @@ use Prim.Native.Nat.{ℕ, _+_, _≤_}
 use native.Mathlib.Omega.{arith}
 use mathlib.Core.Path.{_≡_, refl}
 use mathlib.Core.Bool.{Bool, true, _&&_}
-use mathlib.Core.List.{List, [], _∷_, _++_}
+use mathlib.Core.List.{List, [], _∷_}
 use borrow.Author.Tests.{ltb-true}
 use lib.Dec.{ltb}
 use lib.ListN.{length, length-append}
+use Rattle.lists.specs.Lists.{all, among, Visit, walk}
+use Rattle.lists.proofs.Choices.{both, by-choice, either}
+use Rattle.lists.proofs.Tests.{pass-append, one-passes, none-passes}
 use Rattle.tdma_time.specs.Slots.{valid}
 use Rattle.tdma_time.specs.declared.TdmaTime.{TdmaTime}
-use Rattle.llc_rule.specs.Lists.{all, among, Visit, walk}
 use Rattle.llc_rule.specs.Messages.{overdue}
-use Rattle.llc_rule.proofs.Lists.{both, and-true, by-choice, either}
 use Rattle.llc_state.specs.Ranges.{messageInRange, inRange}
 use Rattle.llc_state.specs.declared.Entry.{Entry}
 use Rattle.llc_state.specs.declared.ReceiptPlace.{ReceiptPlace}
@@ -22,13 +23,6 @@ use Rattle.llc_steps.specs.TickEnd.{timed, retransmission, Sending, firstSendin
 use Rattle.llc_steps.proofs.SaneTickEnd.{submitted-in-range, timed-in-range}
 
 -- A walk ------------------------------------------------------------------------------------------------------------------
-
-all-append : {A : Type 0} (p : A → Bool) (l m : List A) → all p l ≡ true → all p m ≡ true → all p (l ++ m) ≡ true
-unfolding all
-all-append p [] m h k = k
-all-append p (x ∷ l) m h k =
-    let t = both {x = p x} {y = all p l} h in
-    and-true (t .0) (all-append p l m (t .1) k)
 
 module _ {S A R : Type 0} (f : S → A → Visit S A R) where
   -- No more stay than there were, if at most one stays of each visit.
@@ -50,7 +44,7 @@ module _ {S A R : Type 0} (f : S → A → Visit S A R) where
   passing-stay p h s [] a = refl
   passing-stay p h s (x ∷ l) a =
       let t = both {x = p x} {y = all p l} a in
-      all-append p (f s x .stays) (walk f (f s x .state) l .stays) (h s x (t .0)) (passing-stay p h (f s x .state) l (t .1))
+      pass-append p (f s x .stays) (walk f (f s x .state) l .stays) (h s x (t .0)) (passing-stay p h (f s x .state) l (t .1))
 
 -- The first pass ----------------------------------------------------------------------------------------------------------
 
@@ -60,14 +54,6 @@ AtMostOne v = length (v .stays) ≤ 1
 
 abbrev InRange : {S : Type 0} → Visit S Entry Entry → Type 0
 InRange v = all messageInRange (v .stays) ≡ true
-
-one-passes : {A : Type 0} (p : A → Bool) (x : A) → p x ≡ true → all p (x ∷ []) ≡ true
-unfolding all
-one-passes p x h = and-true h refl
-
-none-passes : {A : Type 0} (p : A → Bool) → all p [] ≡ true
-unfolding all
-none-passes p = refl
 
 module _ (time : TdmaTime) (t251 : ℕ) where
   few-again : (ps : List ReceiptPlace) (e : Entry) → AtMostOne (retransmission time t251 ps e)

@@ -5,7 +5,7 @@ use mathlib.Core.Path.{_≡_, _∙_, refl, sym, ap}
 use mathlib.Core.List.{List, [], _++_, append-assoc, append-nil}
 use lib.ListN.{length, getD, drop}
 use lib.Seq.{drop-cons, drop-length}
-use Rattle.llc_rule.specs.Lists.{Visit, _then_, walk}
+use Rattle.lists.specs.Lists.{Visit, _then_, walk}
 
 module _ {S A R : Type 0} where
   -- The visits so far came to v, and with the visits to those from i on they are the whole walk.

@@ -6,13 +6,15 @@ use mathlib.Core.Path.{_≡_, _∙_, sym, ap}
 use mathlib.Core.Bool.{true}
 use mathlib.Core.List.{List, [], _++_}
 use lib.ListN.{length, drop, length-append, length-take}
+use Rattle.lists.specs.Lists.{all, Visit, walk}
+use Rattle.lists.specs.Arrays.{laid}
+use Rattle.lists.specs.Writes.{Wrote}
+use Rattle.lists.proofs.Arrays.{laid-again, take-laid}
+use Rattle.lists.proofs.Writes.{_⨾_, as-long, same-bytes, write-is}
 use Rattle.llc_rule.specs.Limits.{outputBytes}
 use Rattle.llc_rule.specs.Calls.{tickEnd}
-use Rattle.llc_rule.specs.Lists.{all, Visit, walk}
 use Rattle.llc_rule.specs.Records.{allBytes}
 use Rattle.llc_rule.proofs.Room.{allBytes-append}
-use Rattle.llc_records.specs.Wrote.{Wrote}
-use Rattle.llc_records.proofs.Wrote.{_⨾_, as-long, same-bytes, write-is}
 use Rattle.llc_state.specs.Ranges.{messageInRange, udataInRange, inRange}
 use Rattle.llc_state.specs.Receipts.{withPlaces}
 use Rattle.llc_state.specs.States.{noEntry}
@@ -21,13 +23,10 @@ use Rattle.llc_state.specs.declared.State.{State}
 use Rattle.llc_state.proofs.InRange.{range-tells}
 use Rattle.llc_state.proofs.Lengths.{Lengths}
 use Rattle.llc_steps.specs.Answers.{effect, answer, laidOut, delivered}
-use Rattle.llc_steps.specs.Arrays.{laid}
 use Rattle.llc_steps.specs.States.{messagesOf, udataOf, acksOf, withUdata, withAcks, putMessages}
 use Rattle.llc_steps.specs.Steps.{acts}
 use Rattle.llc_steps.specs.TickEnd.{Sending, firstSending, retransmissions, firstSendings, ticked, tickRecords}
-use Rattle.llc_steps.proofs.Setters.{take-laid}
 use Rattle.llc_tick_end.specs.Passes.{sentBytesOf, replyBytesOf, udataBytesOf, afterRetransmissions, sendings, afterSendings}
-use Rattle.llc_steps.proofs.Laid.{laid-again}
 use Rattle.llc_tick_end.proofs.Room.{tick-room}
 use Rattle.llc_tick_end.proofs.Stays.{stays-few, stays-in-range, stays-few-too}
 

@@ -1,7 +1,7 @@
 -- The passes of a tick end, each on the state that it finds.
 use Prim.Native.Nat.{ℕ}
 use mathlib.Core.List.{List, [], map}
-use Rattle.llc_rule.specs.Lists.{Visit, walk}
+use Rattle.lists.specs.Lists.{Visit, walk}
 use Rattle.llc_rule.specs.Records.{allBytes, acknowledged, unacknowledged}
 use Rattle.llc_rule.specs.Messages.{replyTo}
 use Rattle.llc_state.specs.View.{sentIn, dueIn}

@@ -2,11 +2,11 @@
 ghost use Prim.Native.Nat.{_+_, _≤_, _<_};
 ghost use mathlib.Core.Path.{_≡_};
 ghost use lib.ListN.{length};
+ghost use Rattle.lists.specs.Writes.{Wrote};
 ghost use Rattle.bits.specs.Bits.{bits};
 ghost use Rattle.llc_pdus.specs.Writes.{longestSent};
 ghost use Rattle.llc_rule.specs.Limits.{storeBytes, storePlaces};
 ghost use Rattle.llc_rule.specs.Records.{sentBytes};
-ghost use Rattle.llc_records.specs.Wrote.{Wrote};
 ghost use Rattle.llc_state.specs.View.{sentIn};
 use llc_records::SentRecord;
 use llc_records::put_sent;

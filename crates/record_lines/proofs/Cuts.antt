@@ -9,9 +9,9 @@ use borrow.Author.Tests.{eq-eqb, ne-eqb}
 use lib.Dec.{eqb}
 use lib.ListN.{length, getD, take, drop}
 use lib.Seq.{slice, slice-empty}
-use Rattle.hex_lines.specs.Lines.{onFirst}
-use Rattle.hex_lines.proofs.Choices.{by-choice}
+use Rattle.lists.proofs.Choices.{by-choice}
 use Rattle.llc_rule.specs.Calls.{fromBytes}
+use Rattle.hex_lines.specs.Lines.{onFirst}
 use Rattle.record_lines.specs.Split.{behindTag, cut, split}
 use Rattle.record_lines.specs.Ends.{Ends}
 use Rattle.record_lines.proofs.Parts.{slice-first, slice-front, slice-back, slice-join}

@@ -1,14 +1,14 @@
 -- Records written as lines, one behind the other.
 use Prim.Native.Nat.{ℕ, _+_, _*_, _-_, _≤_}
-use native.Mathlib.Nat.{add-zero}
 use native.Mathlib.Omega.{arith}
 use mathlib.Core.Path.{_≡_, _∙_, refl, sym, ap}
 use mathlib.Core.List.{List, [], _∷_, _++_, append-assoc, append-nil}
 use lib.ListN.{length, take}
 use lib.Seq.{slice, slice-empty}
+use Rattle.lists.specs.Writes.{Wrote}
+use Rattle.lists.proofs.Writes.{_⨾_, as-long, wrote-none}
 use Rattle.hex_lines.specs.Lines.{lineEnd, hexOf}
-use Rattle.hex_lines.specs.Wrote.{Wrote}
-use Rattle.hex_lines.proofs.Writes.{_⨾_, wrote-length, line-length}
+use Rattle.hex_lines.proofs.Writes.{line-length}
 use Rattle.record_lines.specs.Split.{split, inLines, recordLines}
 use Rattle.record_lines.specs.Ends.{Ends}
 
@@ -26,12 +26,12 @@ none-yet l at records len =
       within = omega arith;
       room = omega arith;
       vs = [];
-      wrote = record { next = sym (add-zero at); holds = refl };
+      wrote = wrote-none l at;
       left = refl;
     }
 
-pub as-long : {l : List ℕ} {at : ℕ} {records : List ℕ} {len : ℕ} {m : List ℕ} {i p : ℕ} → Written l at records len m i p → length m ≡ length l
-as-long w = wrote-length (w .wrote)
+pub written-long : {l : List ℕ} {at : ℕ} {records : List ℕ} {len : ℕ} {m : List ℕ} {i p : ℕ} → Written l at records len m i p → length m ≡ length l
+written-long w = as-long (w .wrote)
 
 pub one-more :
     {l : List ℕ} {at : ℕ} {records : List ℕ} {len : ℕ} {m k : List ℕ} {i p e q : ℕ}

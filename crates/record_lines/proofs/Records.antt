@@ -8,11 +8,11 @@ use mathlib.Core.Option.{Option, none, some}
 use lib.Dec.{eqb}
 use lib.ListN.{length, take, length-append}
 use lib.Seq.{take-at, drop-at}
+use Rattle.lists.specs.Lists.{All}
 use Rattle.llc_pdus.specs.Headers.{bit}
 use Rattle.llc_rule.specs.Calls.{toBytes}
 use Rattle.llc_rule.specs.Records.{Record, acknowledged, reply, unacknowledged, dataUp, unitdataUp, Sent, Reply, Indication, field, number, pack, counted, countedIfAny, masked, sentBytes, replyBytes, indicationBytes, bytes, allBytes}
 use Rattle.llc_rule.specs.Sizes.{Fits, FitsBits, FitsSent, FitsReply, FitsIndication}
-use Rattle.llc_rule.specs.Sound.{All}
 use Rattle.llc_rule.proofs.Records.{fromBytes-toBytes, length-toBytes, length-field, length-counted, begins}
 use Rattle.record_lines.specs.Split.{behindTag, cut, split, inLines, recordLines}
 use Rattle.record_lines.proofs.Cuts.{before, before-before, nothing-cut, split-on, cut-same, cut-next, cut-none}

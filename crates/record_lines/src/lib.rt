@@ -4,7 +4,7 @@ ghost use Prim.Native.Nat.{_+_, _*_, _≤_, _<_, min};
 ghost use mathlib.Core.Path.{_≡_};
 ghost use lib.ListN.{length, take};
 ghost use lib.Seq.{slice};
-ghost use Rattle.hex_lines.specs.Wrote.{Wrote};
+ghost use Rattle.lists.specs.Writes.{Wrote};
 ghost use Rattle.record_lines.specs.Split.{behindTag, recordLines};
 ghost use Rattle.record_lines.specs.Ends.{Ends};
 

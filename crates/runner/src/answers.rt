@@ -2,8 +2,8 @@
 ghost use Prim.Native.Nat.{_+_, _*_, _≤_};
 ghost use mathlib.Core.List.{[], _∷_, _++_};
 ghost use lib.ListN.{length, take};
+ghost use Rattle.lists.specs.Writes.{Wrote};
 ghost use Rattle.hex_lines.specs.Lines.{lineEnd, decimalOf};
-ghost use Rattle.hex_lines.specs.Wrote.{Wrote};
 ghost use Rattle.record_lines.specs.Split.{recordLines};
 use crate::output::with_room;
 use hex_lines::Finished;

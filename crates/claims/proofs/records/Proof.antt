@@ -1,10 +1,10 @@
+use Rattle.lists.proofs.Writes as Writes
 use Rattle.claims.proofs.records.Statement.{statement}
 use Rattle.claims.proofs.records.Tie as tie
-use Rattle.llc_records.proofs.Wrote as Wrote
 
 returns : tie.Need-returns
 returns c = record {
-  write-is = Wrote.write-is;
+  write-is = Writes.write-is;
 }
 
 pub records-spec : {M : Type 1} → statement M

@@ -1,10 +1,10 @@
-use Rattle.claims.proofs.text.Statement.{statement}
-use Rattle.claims.proofs.text.Tie as tie
+use Rattle.lists.proofs.Writes as Writes
 use Rattle.hex_lines.proofs.Feeding as Feeding
 use Rattle.hex_lines.proofs.Splitting as Splitting
-use Rattle.hex_lines.proofs.Writes as Writes
 use Rattle.hex_lines.proofs.RoundTrip as RoundTrip
 use Rattle.record_lines.proofs.Records as RecordLines
+use Rattle.claims.proofs.text.Statement.{statement}
+use Rattle.claims.proofs.text.Tie as tie
 
 returns : tie.Need-returns
 returns c = record {

@@ -1,7 +1,7 @@
 use Prim.Native.Nat.{_-_}
 use native.Mathlib.Omega.{arith}
 use borrow.Author.Needs.{needs}
-use Rattle.record_lines.proofs.Lines.{Written, none-yet, as-long, one-more, all-written}
+use Rattle.record_lines.proofs.Lines.{Written, none-yet, written-long, one-more, all-written}
 use Rattle.record_lines.proofs.put_records.Statement.{statement}
 use Rattle.record_lines.proofs.put_records.Tie as tie
 
@@ -22,7 +22,7 @@ record-end-requires c κs = search needs
 put-line-requires : tie.Need-put-line-requires Inv-loop μ-loop
 put-line-requires c κs =
     let w = c .before .before .before .loop .inv in
-    omega (arith, as-long w)
+    omega (arith, written-long w)
 
 loop-less : tie.Need-loop-less Inv-loop μ-loop
 loop-less c = search needs
@@ -34,7 +34,7 @@ loop-again c =
     (c .before .before .put-line .ensures)
 
 same-length : tie.Need-same-length Inv-loop μ-loop
-same-length c = as-long (c .before .loop .inv)
+same-length c = written-long (c .before .loop .inv)
 
 returns : tie.Need-returns Inv-loop μ-loop
 returns c =

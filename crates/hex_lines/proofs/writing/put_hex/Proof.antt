@@ -1,6 +1,6 @@
 use borrow.Author.Needs.{needs}
+use Rattle.lists.proofs.Writes.{_⨾_}
 use Rattle.hex_lines.specs.Lines.{hexOf}
-use Rattle.hex_lines.proofs.Writes.{_⨾_}
 use Rattle.hex_lines.proofs.writing.put_hex.Statement.{statement}
 use Rattle.hex_lines.proofs.writing.put_hex.Tie as tie
 

@@ -1,7 +1,8 @@
 use Prim.Native.Nat.{_-_, _≤_}
 use native.Mathlib.Omega.{arith}
 use borrow.Author.Needs.{needs}
-use Rattle.hex_lines.proofs.Writes.{Part, wrote-length, part-place, part-length, part-none, part-more, part-ended}
+use Rattle.lists.proofs.Writes.{as-long}
+use Rattle.hex_lines.proofs.Writes.{Part, part-place, part-length, part-none, part-more, part-ended}
 use Rattle.hex_lines.proofs.writing.put_line.Statement.{statement}
 use Rattle.hex_lines.proofs.writing.put_line.Tie as tie
 
@@ -43,7 +44,7 @@ put-requires c κs =
 same-length : tie.Need-same-length Inv-loop μ-loop
 same-length c =
     let part = c .before .before .before .before .before .loop .inv .1 in
-    omega (arith, part-length part, wrote-length (c .before .before .put .ensures))
+    omega (arith, part-length part, as-long (c .before .before .put .ensures))
 
 returns : tie.Need-returns Inv-loop μ-loop
 returns c =

@@ -1,5 +1,6 @@
 use borrow.Author.Needs.{needs}
-use Rattle.hex_lines.proofs.Writes.{_⨾_, one-digit, two-digits, three-digits}
+use Rattle.lists.proofs.Writes.{_⨾_}
+use Rattle.hex_lines.proofs.Writes.{one-digit, two-digits, three-digits}
 use Rattle.hex_lines.proofs.writing.put_number.Statement.{statement}
 use Rattle.hex_lines.proofs.writing.put_number.Tie as tie
 

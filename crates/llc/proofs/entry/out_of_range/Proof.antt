@@ -1,6 +1,6 @@
 use mathlib.Core.Path.{_∙_, sym}
-use Rattle.llc_rule.proofs.Lists.{if-true, if-false}
 use borrow.Author.Needs.{needs}
+use Rattle.lists.proofs.Choices.{if-true, if-false}
 use Rattle.llc.proofs.entry.out_of_range.Statement.{statement}
 use Rattle.llc.proofs.entry.out_of_range.Tie as tie
 

@@ -1,8 +1,8 @@
 use Prim.Native.Nat.{_-_}
 use borrow.Author.Needs.{needs}
+use Rattle.lists.proofs.Searching.{Searching, begins, goes-on, found, ends}
 use Rattle.llc_state.proofs.Lengths.{lengths}
-use Rattle.llc_steps.specs.Queues.{expectedOn}
-use Rattle.llc_queues.proofs.Searching.{Searching, begins, goes-on, found, ends}
+use Rattle.llc_queues.specs.Queues.{expectedOn}
 use Rattle.llc_queues.proofs.searches.expected_ack_for_ssi.Statement.{statement}
 use Rattle.llc_queues.proofs.searches.expected_ack_for_ssi.Tie as tie
 

@@ -4,12 +4,12 @@ use mathlib.Core.Logic.{⊎-elim}
 use mathlib.Core.Bool.{not}
 use mathlib.Core.List.{[]}
 use borrow.Author.Needs.{needs}
+use Rattle.lists.proofs.Searching.{Searching, begins, goes-on, found, ends}
 use Rattle.llc_rule.specs.Limits.{storePlaces}
 use Rattle.llc_state.proofs.Lengths.{lengths}
 use Rattle.llc_steps.specs.Places.{freePlace, usedPlaces}
 use Rattle.llc_steps.specs.States.{messagesOf}
 use Rattle.llc_queues.proofs.Marking.{Marking, placesOf, unmarked, starts, marks-it, passes-it, all-marked, first-free, none-free}
-use Rattle.llc_queues.proofs.Searching.{Searching, begins, goes-on, found, ends}
 use Rattle.llc_queues.proofs.searches.free_place.Statement.{statement}
 use Rattle.llc_queues.proofs.searches.free_place.Tie as tie
 

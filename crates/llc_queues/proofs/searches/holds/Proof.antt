@@ -3,10 +3,10 @@ use mathlib.Core.Path.{refl, sym, ap₂}
 use mathlib.Core.Bool.{_||_}
 use borrow.Author.Tests.{eq-eqb, ne-eqb}
 use borrow.Author.Needs.{needs}
+use Rattle.lists.proofs.Searching.{Searching, begins, goes-on, one-passes, none-passes}
 use Rattle.llc_state.proofs.Lengths.{lengths}
 use Rattle.llc_steps.specs.Calls.{held}
-use Rattle.llc_steps.specs.Queues.{withReceipt}
-use Rattle.llc_queues.proofs.Searching.{Searching, begins, goes-on, one-passes, none-passes}
+use Rattle.llc_queues.specs.Queues.{withReceipt}
 use Rattle.llc_queues.proofs.searches.holds.Statement.{statement}
 use Rattle.llc_queues.proofs.searches.holds.Tie as tie
 

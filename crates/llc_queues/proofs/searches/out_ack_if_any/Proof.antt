@@ -1,7 +1,7 @@
 use Prim.Native.Nat.{_-_}
 use borrow.Author.Needs.{needs}
-use Rattle.llc_steps.specs.Queues.{ackOn}
-use Rattle.llc_queues.proofs.Searching.{Searching, begins, goes-on, found, ends}
+use Rattle.lists.proofs.Searching.{Searching, begins, goes-on, found, ends}
+use Rattle.llc_queues.specs.Queues.{ackOn}
 use Rattle.llc_queues.proofs.searches.out_ack_if_any.Statement.{statement}
 use Rattle.llc_queues.proofs.searches.out_ack_if_any.Tie as tie
 

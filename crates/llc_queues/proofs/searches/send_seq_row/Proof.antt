@@ -1,8 +1,8 @@
 use Prim.Native.Nat.{_-_}
 use borrow.Author.Tests.{eq-eqb, ne-eqb}
 use borrow.Author.Needs.{needs}
-use Rattle.llc_steps.specs.Queues.{rowOf}
-use Rattle.llc_queues.proofs.Searching.{Searching, begins, goes-on, found, ends}
+use Rattle.lists.proofs.Searching.{Searching, begins, goes-on, found, ends}
+use Rattle.llc_queues.specs.Queues.{rowOf}
 use Rattle.llc_queues.proofs.searches.send_seq_row.Statement.{statement}
 use Rattle.llc_queues.proofs.searches.send_seq_row.Tie as tie
 

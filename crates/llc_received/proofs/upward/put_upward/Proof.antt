@@ -1,9 +1,9 @@
 use native.Mathlib.Omega.{arith}
 use mathlib.Core.Path.{_∙_}
 use lib.ListN.{length}
+use Rattle.lists.proofs.Writes.{wrote-none}
 use Rattle.bits.specs.Bits.{bits, part}
 use Rattle.llc_calls.specs.Decoded.{frameOf}
-use Rattle.llc_records.proofs.Wrote.{wrote-none}
 use Rattle.llc_received.proofs.SentUp.{adata-up, data-up, udata-up, ack-up, none-up, sdu-long, room-up, wrote-up}
 use borrow.Author.Needs.{needs}
 use Rattle.llc_received.proofs.upward.put_upward.Statement.{statement}

@@ -1,6 +1,6 @@
 use borrow.Author.Needs.{needs}
+use Rattle.lists.proofs.Writes.{same-bytes}
 use Rattle.llc_records.proofs.Parts.{ack-set, ack-clear}
-use Rattle.llc_records.proofs.Wrote.{same-bytes}
 use Rattle.llc_records.proofs.fields.put_ack.Statement.{statement}
 use Rattle.llc_records.proofs.fields.put_ack.Tie as tie
 

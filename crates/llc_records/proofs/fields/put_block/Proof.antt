@@ -1,10 +1,10 @@
 use native.Mathlib.Omega.{arith}
+use Rattle.lists.proofs.Writes.{_⨾_, same-bytes}
 use Rattle.bits.proofs.Laws.{length-part}
 use Rattle.bits.specs.Bits.{part}
 use Rattle.llc_rule.specs.Calls.{toBytes}
 use borrow.Author.Needs.{needs}
 use Rattle.llc_records.proofs.Parts.{field-is}
-use Rattle.llc_records.proofs.Wrote.{_⨾_, same-bytes}
 use Rattle.llc_records.proofs.fields.put_block.Statement.{statement}
 use Rattle.llc_records.proofs.fields.put_block.Tie as tie
 

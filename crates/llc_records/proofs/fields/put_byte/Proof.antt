@@ -1,5 +1,5 @@
 use borrow.Author.Needs.{needs}
-use Rattle.llc_records.proofs.Wrote.{wrote-one}
+use Rattle.lists.proofs.Writes.{wrote-one}
 use Rattle.llc_records.proofs.fields.put_byte.Statement.{statement}
 use Rattle.llc_records.proofs.fields.put_byte.Tie as tie
 

@@ -1,10 +1,10 @@
 use Prim.Native.Nat.{ℕ, suc, _+_, _-_, _≤_}
 use native.Mathlib.Omega.{arith}
 use mathlib.Core.Path.{_≡_, _∙_, refl, ap}
+use Rattle.lists.proofs.Writes.{Left, begins, goes-on, ends}
 use Rattle.llc_rule.specs.Calls.{toBytes}
 use borrow.Author.Needs.{needs}
 use Rattle.llc_records.proofs.Parts.{bytes-next, bytes-none}
-use Rattle.llc_records.proofs.Wrote.{Left, begins, goes-on, ends}
 use Rattle.llc_records.proofs.fields.put_bytes.Statement.{statement}
 use Rattle.llc_records.proofs.fields.put_bytes.Tie as tie
 

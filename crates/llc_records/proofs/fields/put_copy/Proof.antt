@@ -3,10 +3,10 @@ use native.Mathlib.Omega.{arith}
 use mathlib.Core.List.{_∷_}
 use mathlib.Core.Path.{_≡_, _∙_, ap}
 use lib.ListN.{length, getD}
+use Rattle.lists.proofs.Writes.{Left, begins-at, goes-on, ends}
 use Rattle.bits.specs.Bits.{part}
 use borrow.Author.Needs.{needs}
 use Rattle.llc_records.proofs.Parts.{part-all, part-next}
-use Rattle.llc_records.proofs.Wrote.{Left, begins-at, goes-on, ends}
 use Rattle.llc_records.proofs.fields.put_copy.Statement.{statement}
 use Rattle.llc_records.proofs.fields.put_copy.Tie as tie
 

@@ -1,11 +1,11 @@
 use native.Mathlib.Omega.{arith}
 use mathlib.Core.Path.{_≡_}
 use lib.ListN.{length}
+use Rattle.lists.proofs.Writes.{_⨾_, same-bytes}
 use Rattle.bits.specs.Bits.{bits, part}
 use Rattle.llc_rule.specs.Calls.{toBytes}
 use borrow.Author.Needs.{needs}
 use Rattle.llc_records.proofs.Parts.{bits-long, counted-is}
-use Rattle.llc_records.proofs.Wrote.{_⨾_, same-bytes}
 use Rattle.llc_records.proofs.fields.put_counted.Statement.{statement}
 use Rattle.llc_records.proofs.fields.put_counted.Tie as tie
 

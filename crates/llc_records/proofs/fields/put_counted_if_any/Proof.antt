@@ -2,12 +2,12 @@ use Prim.Native.Nat.{ℕ}
 use native.Mathlib.Omega.{arith}
 use mathlib.Core.Path.{_≡_, _∙_, sym, ap}
 use lib.ListN.{length}
+use Rattle.lists.proofs.Writes.{same-bytes, wrote-none}
 use Rattle.bits.specs.Bits.{bits, part}
 use Rattle.llc_rule.proofs.Records.{length-counted}
 use Rattle.llc_rule.specs.Records.{countedIfAny}
 use borrow.Author.Needs.{needs}
 use Rattle.llc_records.proofs.Parts.{bits-long, any-none, any-some}
-use Rattle.llc_records.proofs.Wrote.{same-bytes, wrote-none}
 use Rattle.llc_records.proofs.fields.put_counted_if_any.Statement.{statement}
 use Rattle.llc_records.proofs.fields.put_counted_if_any.Tie as tie
 

@@ -1,6 +1,6 @@
 use borrow.Author.Needs.{needs}
+use Rattle.lists.proofs.Writes.{same-bytes}
 use Rattle.llc_records.proofs.Parts.{flag-set, flag-clear}
-use Rattle.llc_records.proofs.Wrote.{same-bytes}
 use Rattle.llc_records.proofs.fields.put_flag.Statement.{statement}
 use Rattle.llc_records.proofs.fields.put_flag.Tie as tie
 

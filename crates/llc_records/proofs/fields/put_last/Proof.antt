@@ -3,12 +3,12 @@ use native.Mathlib.Omega.{arith}
 use mathlib.Core.List.{[], _∷_}
 use mathlib.Core.Path.{_≡_, _∙_, sym, ap}
 use lib.ListN.{length}
+use Rattle.lists.proofs.Writes.{same-bytes, wrote-none}
 use Rattle.bits.proofs.Bytes.{all-part}
 use Rattle.bits.specs.Bits.{bits, part}
 use Rattle.llc_rule.specs.Records.{pack}
 use borrow.Author.Needs.{needs}
 use Rattle.llc_records.proofs.Parts.{bits-long, pack-none, pack-few, last-exact, last-fits}
-use Rattle.llc_records.proofs.Wrote.{same-bytes, wrote-none}
 use Rattle.llc_records.proofs.fields.put_last.Statement.{statement}
 use Rattle.llc_records.proofs.fields.put_last.Tie as tie
 

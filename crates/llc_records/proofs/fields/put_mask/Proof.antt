@@ -1,10 +1,10 @@
 use native.Mathlib.Omega.{arith}
 use mathlib.Core.Path.{ap}
 use lib.ListN.{length}
+use Rattle.lists.proofs.Writes.{same-bytes, wrote-none}
 use Rattle.llc_rule.proofs.Records.{length-number}
 use borrow.Author.Needs.{needs}
 use Rattle.llc_records.proofs.Parts.{mask-there, mask-gone}
-use Rattle.llc_records.proofs.Wrote.{same-bytes, wrote-none}
 use Rattle.llc_records.proofs.fields.put_mask.Statement.{statement}
 use Rattle.llc_records.proofs.fields.put_mask.Tie as tie
 

@@ -1,7 +1,7 @@
+use Rattle.lists.proofs.Writes.{_⨾_, same-bytes}
 use Rattle.llc_rule.specs.Calls.{toBytes}
 use borrow.Author.Needs.{needs}
 use Rattle.llc_records.proofs.Parts.{number-is}
-use Rattle.llc_records.proofs.Wrote.{_⨾_, same-bytes}
 use Rattle.llc_records.proofs.fields.put_number.Statement.{statement}
 use Rattle.llc_records.proofs.fields.put_number.Tie as tie
 

@@ -1,11 +1,11 @@
 use Prim.Native.Nat.{ℕ, _*_, _/_}
 use native.Mathlib.Omega.{arith}
+use Rattle.lists.proofs.Writes.{_⨾_, same-bytes}
 use Rattle.bits.proofs.Laws.{length-bits}
 use Rattle.bits.specs.Bits.{bits, part}
 use Rattle.llc_rule.proofs.Records.{length-packed}
 use borrow.Author.Needs.{needs}
 use Rattle.llc_records.proofs.Parts.{pack-part}
-use Rattle.llc_records.proofs.Wrote.{_⨾_, same-bytes}
 use Rattle.llc_records.proofs.fields.put_packed.Statement.{statement}
 use Rattle.llc_records.proofs.fields.put_packed.Tie as tie
 

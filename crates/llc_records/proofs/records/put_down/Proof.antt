@@ -1,8 +1,8 @@
 use native.Mathlib.Omega.{arith}
+use Rattle.lists.proofs.Writes.{_⨾_}
 use Rattle.bits.proofs.Laws.{length-part}
 use Rattle.llc_rule.specs.Calls.{toBytes}
 use borrow.Author.Needs.{needs}
-use Rattle.llc_records.proofs.Wrote.{_⨾_}
 use Rattle.llc_records.proofs.records.put_down.Statement.{statement}
 use Rattle.llc_records.proofs.records.put_down.Tie as tie
 

@@ -1,6 +1,6 @@
+use Rattle.lists.proofs.Writes.{_⨾_}
 use Rattle.llc_rule.specs.Calls.{toBytes}
 use borrow.Author.Needs.{needs}
-use Rattle.llc_records.proofs.Wrote.{_⨾_}
 use Rattle.llc_records.proofs.records.put_head.Statement.{statement}
 use Rattle.llc_records.proofs.records.put_head.Tie as tie
 

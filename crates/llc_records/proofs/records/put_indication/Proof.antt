@@ -1,9 +1,9 @@
 use native.Mathlib.Omega.{arith}
+use Rattle.lists.proofs.Writes.{_⨾_, same-bytes}
 use Rattle.bits.specs.Bits.{bits, part}
 use Rattle.llc_rule.specs.Calls.{toBytes}
 use borrow.Author.Needs.{needs}
 use Rattle.llc_records.proofs.Whole.{indication-is, size-indication}
-use Rattle.llc_records.proofs.Wrote.{_⨾_, same-bytes}
 use Rattle.llc_records.proofs.records.put_indication.Statement.{statement}
 use Rattle.llc_records.proofs.records.put_indication.Tie as tie
 

@@ -1,8 +1,8 @@
 use native.Mathlib.Omega.{arith}
+use Rattle.lists.proofs.Writes.{_⨾_, same-bytes}
 use Rattle.llc_rule.specs.Calls.{toBytes}
 use borrow.Author.Needs.{needs}
 use Rattle.llc_records.proofs.Whole.{reply-is, size-reply}
-use Rattle.llc_records.proofs.Wrote.{_⨾_, same-bytes}
 use Rattle.llc_records.proofs.records.put_reply.Statement.{statement}
 use Rattle.llc_records.proofs.records.put_reply.Tie as tie
 

@@ -2,13 +2,14 @@ use Prim.Native.Nat.{ℕ}
 use native.Mathlib.Omega.{arith}
 use mathlib.Core.Path.{_∙_, ap}
 use borrow.Author.Needs.{needs}
+use Rattle.lists.proofs.Arrays.{position-within}
 use Rattle.bits.specs.Bits.{bits}
 use Rattle.llc_calls.specs.Decoded.{requestOf}
 use Rattle.llc_state.specs.declared.State.{State}
 use Rattle.llc_state.proofs.InRange.{range-tells}
 use Rattle.llc_state.proofs.Lengths.{lengths}
-use Rattle.llc_steps.specs.Queues.{ackOn, rowOf}
-use Rattle.llc_requests.proofs.Puts.{allowed, position-within, place-below, put-acknowledged}
+use Rattle.llc_queues.specs.Queues.{ackOn, rowOf}
+use Rattle.llc_requests.proofs.Puts.{allowed, place-below, put-acknowledged}
 use Rattle.llc_requests.proofs.requests.put_acknowledged.Statement.{statement}
 use Rattle.llc_requests.proofs.requests.put_acknowledged.Tie as tie
 

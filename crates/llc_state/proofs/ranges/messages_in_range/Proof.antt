@@ -1,6 +1,6 @@
 use Prim.Native.Nat.{_-_}
+use Rattle.lists.proofs.Asking.{Asking, begins, goes-on, fails, ends}
 use Rattle.llc_state.specs.Ranges.{messageInRange}
-use Rattle.llc_state.proofs.AllLoops.{Asking, begins, goes-on, fails, ends}
 use borrow.Author.Needs.{needs}
 use Rattle.llc_state.proofs.ranges.messages_in_range.Statement.{statement}
 use Rattle.llc_state.proofs.ranges.messages_in_range.Tie as tie

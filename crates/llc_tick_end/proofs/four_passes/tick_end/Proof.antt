@@ -1,7 +1,7 @@
 use native.Mathlib.Omega.{arith}
 use borrow.Author.Needs.{needs}
+use Rattle.lists.proofs.Writes.{as-long}
 use Rattle.bits.specs.Bits.{bits}
-use Rattle.llc_records.proofs.Wrote.{as-long}
 use Rattle.llc_state.proofs.Lengths.{lengths}
 use Rattle.llc_tick_end.proofs.Whole.{first-room, second, third, fourth, tick-end-is}
 use Rattle.llc_tick_end.proofs.four_passes.tick_end.Statement.{statement}

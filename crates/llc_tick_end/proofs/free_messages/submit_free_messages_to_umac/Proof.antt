@@ -1,7 +1,7 @@
 use Prim.Native.Nat.{_-_}
 use borrow.Author.Needs.{needs}
+use Rattle.lists.proofs.Writes.{as-long}
 use Rattle.bits.specs.Bits.{bits}
-use Rattle.llc_records.proofs.Wrote.{as-long}
 use Rattle.llc_state.proofs.Lengths.{lengths}
 use Rattle.llc_tick_end.proofs.FreeMessages.{Passing, begins, in-range, is-under-way, waits, room, is-sent, left-state, all-written}
 use Rattle.llc_tick_end.proofs.free_messages.submit_free_messages_to_umac.Statement.{

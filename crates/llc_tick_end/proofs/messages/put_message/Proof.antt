@@ -8,12 +8,12 @@ use denote.Laws.{Is}
 use denote.Struct.Declared.{row}
 use denote.Struct.Laws as S
 use lib.ListN.{length, length-map}
+use Rattle.lists.proofs.Writes.{same-bytes}
 use Rattle.bits.specs.Bits.{bits, part}
 use Rattle.llc_rule.specs.Limits.{placeBits}
 use Rattle.llc_rule.specs.Records.{sentBytes}
 use Rattle.llc_records.specs.Records.{maskIf, sent}
 use Rattle.llc_records.specs.declared.SentRecord.{SentRecord}
-use Rattle.llc_records.proofs.Wrote.{same-bytes}
 use Rattle.llc_state.specs.View.{placeBit, frameIn, sentIn}
 use Rattle.llc_state.specs.declared.TmaUnitdataReq.{TmaUnitdataReq}
 use Rattle.llc_state.specs.declared.Entry.{Entry}

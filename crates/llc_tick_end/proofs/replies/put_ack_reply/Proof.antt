@@ -8,14 +8,14 @@ use borrow.Author.Tests.{leb-true}
 use lib.Dec.{leb}
 use lib.ListN.{length}
 use lib.Pow.{shl-exact}
+use Rattle.lists.proofs.Writes.{same-bytes}
+use Rattle.lists.proofs.Choices.{both, if-true, if-false}
 use Rattle.llc_pdus.specs.Headers.{header}
 use Rattle.llc_pdus.specs.declared.Pdu.the-variants.{BlAck}
 use Rattle.llc_rule.specs.Messages.{stealsSlot, replyTo}
 use Rattle.llc_rule.specs.Records.{replyBytes, bytes}
-use Rattle.llc_rule.proofs.Lists.{both, if-true, if-false}
 use Rattle.llc_records.specs.Records.{reply}
 use Rattle.llc_records.specs.declared.ReplyRecord.{ReplyRecord}
-use Rattle.llc_records.proofs.Wrote.{same-bytes}
 use Rattle.llc_state.specs.View.{dueIn}
 use Rattle.llc_state.specs.declared.ScheduledOutAck.{ScheduledOutAck}
 use borrow.Author.Needs.{needs}

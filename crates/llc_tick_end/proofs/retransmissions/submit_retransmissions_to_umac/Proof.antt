@@ -3,7 +3,7 @@ use native.Mathlib.Omega.{arith}
 use mathlib.Core.Path.{_∙_, sym}
 use borrow.Author.Needs.{needs}
 use borrow.Author.Tests.{not-true, not-false}
-use Rattle.llc_records.proofs.Wrote.{as-long}
+use Rattle.lists.proofs.Writes.{as-long}
 use Rattle.llc_state.proofs.Lengths.{lengths}
 use Rattle.llc_tick_end.proofs.Clearing.{Clearing, clears-on}
 use Rattle.llc_tick_end.proofs.Retransmitting.{Passing, passes, clearing, held-measures, visited-measures, visited-done, stays, room, sends-again, leaves, all-wrote, all-cleared}

@@ -1,7 +1,7 @@
 use mathlib.Core.Path.{_∙_, sym, ap}
 use mathlib.Core.Bool.{Bool, not, _&&_}
 use borrow.Author.Needs.{needs}
-use Rattle.llc_rule.proofs.Lists.{if-true, if-false}
+use Rattle.lists.proofs.Choices.{if-true, if-false}
 use Rattle.llc_state.specs.Progress.{doneAt, withProgress}
 use Rattle.llc_tick_end.proofs.retransmissions.timed.Statement.{statement}
 use Rattle.llc_tick_end.proofs.retransmissions.timed.Tie as tie

@@ -2,6 +2,7 @@ use Prim.Native.Nat.{ℕ, _-_}
 use native.Mathlib.Omega.{arith}
 use mathlib.Core.Path.{_∙_, ap}
 use mathlib.Core.List.{List}
+use Rattle.lists.proofs.Tests.{used-at}
 use Rattle.bits.specs.Bits.{bits}
 use Rattle.llc_rule.specs.Records.{Record, unacknowledged, bytes}
 use Rattle.llc_state.specs.Ranges.{udataInRange}
@@ -9,7 +10,7 @@ use Rattle.llc_state.specs.View.{sentIn}
 use Rattle.llc_state.specs.declared.Entry.{Entry}
 use Rattle.llc_state.proofs.Lengths.{lengths}
 use Rattle.llc_tick_end.specs.Passes.{udataBytesOf}
-use Rattle.llc_tick_end.proofs.Entries.{used-at, udata-measures}
+use Rattle.llc_tick_end.proofs.Entries.{udata-measures}
 use Rattle.llc_queues.proofs.Arrays.{udata}
 use Rattle.llc_tick_end.proofs.Draining.{Draining, reads, drains, drain-room, drains-on, all-handed, all-drained}
 use borrow.Author.Needs.{needs}

@@ -2,8 +2,9 @@ use native.Mathlib.Omega.{arith}
 use mathlib.Core.Path.{sym}
 use borrow.Author.Needs.{needs}
 use lib.Seq.{length-take-le}
+use Rattle.lists.proofs.Writes.{as-long}
 use Rattle.llc.proofs.Ways.{told-fits}
-use Rattle.hex_lines.proofs.Writes.{wrote-length, number-length}
+use Rattle.hex_lines.proofs.Writes.{number-length}
 use Rattle.hex_lines.proofs.Gathering.{few-bytes}
 use Rattle.runner.proofs.answers.call.Statement.{statement}
 use Rattle.runner.proofs.answers.call.Tie as tie
@@ -39,7 +40,7 @@ same-length : tie.Need-same-length
 same-length c = search needs
 
 returns : tie.Need-returns
-returns c = omega (arith, number-length 2, wrote-length (c .before .before .put-number .ensures))
+returns c = omega (arith, number-length 2, as-long (c .before .before .put-number .ensures))
 
 same-length-2 : tie.Need-same-length-2
 same-length-2 c = search needs

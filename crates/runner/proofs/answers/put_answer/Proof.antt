@@ -1,6 +1,7 @@
 use native.Mathlib.Omega.{arith}
 use borrow.Author.Needs.{needs}
-use Rattle.hex_lines.proofs.Writes.{_⨾_, number-length}
+use Rattle.lists.proofs.Writes.{_⨾_}
+use Rattle.hex_lines.proofs.Writes.{number-length}
 use Rattle.runner.proofs.answers.put_answer.Statement.{statement}
 use Rattle.runner.proofs.answers.put_answer.Tie as tie
 

@@ -6,7 +6,7 @@ use mathlib.Core.Bool.{Bool, true, false, not, _&&_}
 use mathlib.Core.List.{List, [], _∷_}
 use borrow.Author.Tests.{not-true, not-false}
 use lib.ListN.{length, getD, take, drop}
-use Rattle.llc_rule.specs.Lists.{all}
+use Rattle.lists.specs.Lists.{all}
 
 module _ {A : Type 0} where
   -- Before turn i, the test of those from i on is the whole answer.

@@ -5,8 +5,8 @@ use native.Mathlib.Omega.{arith}
 use mathlib.Core.Path.{_≡_, _∙_, refl, sym, ap, ap₂}
 use mathlib.Core.List.{List, [], _∷_, _++_, append-assoc}
 use lib.ListN.{length, set, take, drop, length-append, length-set}
-use lib.Seq.{sets, sets-eq}
-use Rattle.llc_records.specs.Wrote.{write, Wrote}
+use lib.Seq.{sets, sets-eq, take-at, drop-at, length-take-le}
+use Rattle.lists.specs.Writes.{write, Wrote}
 
 pub length-write : (l : List ℕ) (i : ℕ) (vs : List ℕ) → length (write l i vs) ≡ length l
 unfolding write
@@ -47,6 +47,21 @@ _⨾_ {l} {m} {k} {i} {j} {n} {vs} {ws} a b =
 -- A write leaves the length.
 pub as-long : {l m : List ℕ} {i j : ℕ} {vs : List ℕ} → Wrote l i vs m j → length m ≡ length l
 as-long {l} {m} {i} {j} {vs} w = ap length (w .holds) ∙ length-write l i vs
+
+-- What stands after a write up to its end, and behind it.
+pub wrote-shows : {l vs m : List ℕ} {i j : ℕ} → Wrote l i vs m j → j ≤ length l → take j m ≡ take i l ++ vs
+wrote-shows {l} {vs} {m} {i} {j} w h =
+    let k : j ≡ i + length vs = w .next in
+    let e : length (take i l ++ vs) ≡ j = omega (arith, length-append (take i l) vs, length-take-le i l (omega arith)) in
+    ap (take j) (w .holds ∙ write-sets l i vs ∙ sets-eq vs l i (omega arith)) ∙ take-at (take i l ++ vs) (drop (i + length vs) l) j e
+
+pub wrote-rest : {l vs m : List ℕ} {i j : ℕ} → Wrote l i vs m j → j ≤ length l → drop j m ≡ drop j l
+wrote-rest {l} {vs} {m} {i} {j} w h =
+    let k : j ≡ i + length vs = w .next in
+    let e : length (take i l ++ vs) ≡ j = omega (arith, length-append (take i l) vs, length-take-le i l (omega arith)) in
+    ap (drop j) (w .holds ∙ write-sets l i vs ∙ sets-eq vs l i (omega arith))
+    ∙ drop-at (take i l ++ vs) (drop (i + length vs) l) j e
+    ∙ ap (λ (n : ℕ). drop n l) (sym k)
 
 -- The same write, of what is the same list.
 pub same-bytes : {l m : List ℕ} {i j : ℕ} {vs ws : List ℕ} → vs ≡ ws → Wrote l i vs m j → Wrote l i ws m j

@@ -1,61 +1,16 @@
--- Laws of the queues.
-use Prim.Native.Nat.{ℕ, _≤_, _<_}
+-- Laws of lists.
+use Prim.Native.Nat.{ℕ, zero, suc, _+_, _≤_, _<_}
+use native.Mathlib.Nat.{suc-inj}
 use native.Mathlib.Omega.{arith}
-use mathlib.Core.Path.{_≡_, _∙_, refl, sym, ap}
-use mathlib.Core.Bool.{Bool, true, false, cond, _&&_, _||_, false≢true, true≢false}
-use mathlib.Core.List.{List, [], _∷_, _++_}
+use mathlib.Core.Path.{_≡_, refl, ap, ap₂}
+use mathlib.Core.Bool.{Bool, true, false, cond, _||_}
+use mathlib.Core.List.{List, [], _∷_, _++_, head-eq-of-cons-eq, tail-eq-of-cons-eq}
 use borrow.Author.Tests.{eqb-true, eqb-false}
 use lib.Dec.{eqb}
-use lib.ListN.{length, getD, set}
+use lib.ListN.{length, getD, set, take, drop, length-append}
 use lib.Seq.{getD-set-same, getD-set-other}
-use Rattle.llc_rule.specs.Lists.{keep, any, Found, nothing, first, behind, find}
-use Rattle.llc_rule.specs.Sound.{All}
-
--- What holds where a test passes and where it fails holds.
-pub by-test : {G : Type 0} (b : Bool) → (b ≡ true → G) → (b ≡ false → G) → G
-by-test true f g = f refl
-by-test false f g = g refl
-
-pub both : {x y : Bool} → x && y ≡ true → (x ≡ true) × (y ≡ true)
-both {x = true} {y} h = (refl, h)
-both {x = false} {y} h = absurd (false≢true h)
-
-pub neither : {x y : Bool} → x || y ≡ false → (x ≡ false) × (y ≡ false)
-neither {x = true} {y} h = absurd (true≢false h)
-neither {x = false} {y} h = (refl, h)
-
-pub clash : {G : Type 0} {b : Bool} → b ≡ true → b ≡ false → G
-clash t f = absurd (true≢false (sym t ∙ f))
-
--- A choice whose test is known. (`rw` by a test that is a field of a value would take the value apart.)
-pub if-true : {A : Type 0} {b : Bool} (x y : A) → b ≡ true → cond b x y ≡ x
-if-true x y e = rw e
-
-pub if-false : {A : Type 0} {b : Bool} (x y : A) → b ≡ false → cond b x y ≡ y
-if-false x y e = rw e
-
--- What holds of either choice, where its test comes out so, holds of the choice; a function of it is the choice of its values.
-pub by-choice :
-    {A : Type 0} (P : A → Type 0) (b : Bool) {x y : A}
-    → (b ≡ true → P x)
-    → (b ≡ false → P y)
-    → P (cond b x y)
-by-choice P true f g = f refl
-by-choice P false f g = g refl
-
-pub either : {A : Type 0} (P : A → Type 0) (b : Bool) {x y : A} → P x → P y → P (cond b x y)
-either P b p q = by-choice P b (λ t. p) (λ t. q)
-
-pub ap-cond : {A B : Type 0} (f : A → B) (b : Bool) (x y : A) → f (cond b x y) ≡ cond b (f x) (f y)
-ap-cond f true x y = refl
-ap-cond f false x y = refl
-
-pub and-true : {x y : Bool} → x ≡ true → y ≡ true → x && y ≡ true
-and-true e f = rw (e, f)
-
-pub and-false : (x : Bool) {y : Bool} → y ≡ false → x && y ≡ false
-and-false true f = f
-and-false false f = refl
+use Rattle.lists.specs.Lists.{keep, any, Found, nothing, first, behind, find, All}
+use Rattle.lists.proofs.Choices.{by-test, neither}
 
 module _ {A : Type 0} where
   pub keep-yes : (p : A → Bool) (x : A) (xs : List A) → p x ≡ true → keep p (x ∷ xs) ≡ x ∷ keep p xs
@@ -147,9 +102,74 @@ module _ {A : Type 0} where
   found-out p l nothing s = tt
   found-out p l (first x xs) s = s
 
+  -- How many pass, of two lists put together and of one element and a list.
+  pub count-append : (p : A → Bool) (l m : List A) → length (keep p (l ++ m)) ≡ length (keep p l) + length (keep p m)
+  count-append p l m = rw (keep-append p l m) (length-append (keep p l) (keep p m))
+
+  pub count-yes : (p : A → Bool) (x : A) (l : List A) → p x ≡ true → length (keep p (x ∷ l)) ≡ suc (length (keep p l))
+  count-yes p x l h = rw (keep-yes p x l h)
+
+  pub count-no : (p : A → Bool) (x : A) (l : List A) → p x ≡ false → length (keep p (x ∷ l)) ≡ length (keep p l)
+  count-no p x l h = rw (keep-no p x l h)
+
+  -- One moved to the front counts as before, and one less counts no more.
+  pub count-front :
+      (p : A → Bool) (f : List A) (x : A) (b : List A)
+      → length (keep p (x ∷ (f ++ b))) ≡ length (keep p (f ++ (x ∷ b)))
+  count-front p f x b =
+      by-test (p x)
+      (λ h. rw (count-yes p x (f ++ b) h, count-append p f b, count-append p f (x ∷ b), count-yes p x b h) (omega arith))
+      (λ h. rw (count-no p x (f ++ b) h, count-append p f b, count-append p f (x ∷ b), count-no p x b h))
+
+  pub count-less : (p : A → Bool) (x : A) (l : List A) → length (keep p l) ≤ length (keep p (x ∷ l))
+  count-less p x l =
+      by-test (p x) (λ h. rw (count-yes p x l h) (omega arith)) (λ h. rw (count-no p x l h) (omega arith))
+
+  -- None counts where each fails the test.
+  pub none-passes : (p : A → Bool) (P : A → Type 0) (l : List A) → ((x : A) → P x → p x ≡ false) → All P l → length (keep p l) ≡ 0
+  unfolding keep
+  none-passes p P [] f a = refl
+  none-passes p P (x ∷ l) f a = rw (f x (a .0)) (none-passes p P l f (a .1))
+
+  -- What holds of those that fail a test holds of all where none passes it.
+  pub all-but :
+      (p : A → Bool) (P Q : A → Type 0) (l : List A)
+      → ((x : A) → P x → p x ≡ false → Q x)
+      → any p l ≡ false
+      → All P l
+      → All Q l
+  unfolding any
+  all-but p P Q [] f e a = tt
+  all-but p P Q (x ∷ l) f e a =
+      let n = neither {x = p x} {y = any p l} e in (f x (a .0) (n .0), all-but p P Q l f (n .1) (a .1))
+
+  -- What holds of all holds of the one in the middle, and of the others.
+  pub all-middle : (P : A → Type 0) (f : List A) (x : A) (b : List A) → All P (f ++ (x ∷ b)) → All P (x ∷ (f ++ b))
+  all-middle P [] x b a = a
+  all-middle P (y ∷ f) x b a = let r = all-middle P f x b (a .1) in (r .0, (a .0, r .1))
+
 -- Any element read in a list that was written.
 pub getD-set : {A : Type 0} (l : List A) (i j : ℕ) (v d : A) → i < length l → getD (set l i v) j d ≡ cond (eqb j i) v (getD l j d)
 getD-set l i j v d h =
     by-test (eqb j i)
     (λ e. rw (e, eqb-true j i e) (getD-set-same l i v d h))
     (λ e. rw e (getD-set-other l i j v d (eqb-false j i e)))
+
+pub all-take : {A : Type 0} (P : A → Type 0) (n : ℕ) (l : List A) → All P l → All P (take n l)
+all-take P zero l a = tt
+all-take P (suc n) [] a = tt
+all-take P (suc n) (x ∷ l) a = (a .0, all-take P n l (a .1))
+
+pub all-drop : {A : Type 0} (P : A → Type 0) (n : ℕ) (l : List A) → All P l → All P (drop n l)
+all-drop P zero l a = a
+all-drop P (suc n) [] a = tt
+all-drop P (suc n) (x ∷ l) a = all-drop P n l (a .1)
+
+-- Two lists of one length before others.
+pub append-cancel : {A : Type 0} (p q x y : List A) → length p ≡ length q → p ++ x ≡ q ++ y → (p ≡ q) × (x ≡ y)
+append-cancel [] [] x y n e = (refl, e)
+append-cancel [] (b ∷ q) x y n e = absurd (omega arith)
+append-cancel (a ∷ p) [] x y n e = absurd (omega arith)
+append-cancel {A} (a ∷ p) (b ∷ q) x y n e =
+    let rest = append-cancel p q x y (suc-inj n) (tail-eq-of-cons-eq e) in
+    (ap₂ (λ (c : A) (t : List A). c ∷ t) (head-eq-of-cons-eq e) (rest .0), rest .1)

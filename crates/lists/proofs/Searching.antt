@@ -7,9 +7,9 @@ use mathlib.Core.List.{List, _∷_}
 use borrow.Author.Tests.{lt-ltb, le-ltb}
 use lib.ListN.{length, getD, take, drop}
 use lib.Seq.{drop-cons, getD-take, length-take-le, drop-length}
-use Rattle.llc_rule.specs.Lists.{any}
-use Rattle.llc_steps.specs.Queues.{position}
-use Rattle.llc_queues.proofs.Search.{position-any}
+use Rattle.lists.specs.Lists.{any}
+use Rattle.lists.specs.Arrays.{position}
+use Rattle.lists.proofs.Arrays.{position-any}
 
 module _ {A : Type 0} where
   -- Before turn i, none before i passed: the place in what is left, counted from i, is the place in all.

@@ -54,3 +54,8 @@ _then_ v w = record { state = w .state; stays = v .stays ++ w .stays; out = v .o
 unfoldable pub walk : {S A R : Type 0} → (S → A → Visit S A R) → S → List A → Visit S A R
 walk f s [] = record { state = s; stays = []; out = [] }
 walk f s (x ∷ xs) = _then_ (f s x) (walk f (f s x .state) xs)
+
+-- P holds of every element.
+abbrev pub All : {A : Type 0} → (A → Type 0) → List A → Type 0
+All P [] = Unit {0}
+All P (x ∷ xs) = P x × All P xs

@@ -1,0 +1,19 @@
+use borrow.Author.Needs.{needs}
+use Rattle.lists.proofs.Writes.{wrote-one}
+use Rattle.hex_lines.proofs.writing.put.Statement.{statement}
+use Rattle.hex_lines.proofs.writing.put.Tie as tie
+
+slice-write-out : tie.Need-slice-write-out
+slice-write-out c = search needs
+
+add-result : tie.Need-add-result
+add-result c = search needs
+
+same-length : tie.Need-same-length
+same-length c = search needs
+
+returns : tie.Need-returns
+returns c = wrote-one _ _ _
+
+pub put-spec : {M : Type 1} → statement M
+put-spec = tie.close (tie.spec slice-write-out add-result same-length returns)

@@ -1,0 +1,7 @@
+pub mod Choices
+pub mod Lists
+pub mod Tests
+pub mod Arrays
+pub mod Searching
+pub mod Asking
+pub mod Writes
