@@ -2,7 +2,7 @@
 use Prim.Native.Nat.{ℕ, _+_, _≤_}
 use native.Mathlib.Omega.{arith}
 use mathlib.Core.Path.{_≡_}
-use mathlib.Core.Bool.{Bool, true, not, _&&_}
+use mathlib.Core.Bool.{Bool, true}
 use mathlib.Core.List.{List, [], _∷_}
 use borrow.Author.Tests.{ltb-true}
 use lib.Dec.{ltb}
@@ -13,17 +13,16 @@ use Rattle.lists.proofs.Choices.{by-choice, either}
 use Rattle.tdma_time.specs.Slots.{valid}
 use Rattle.tdma_time.specs.declared.TdmaTime.{TdmaTime}
 use Rattle.tx_receipt.specs.Marks as Marks
-use Rattle.llc_rule.specs.Messages.{overdue, reported}
 use Rattle.llc_state.specs.Progress.{submittedAfter, doneAt, withProgress}
 use Rattle.llc_state.specs.Ranges.{messageInRange}
-use Rattle.llc_state.specs.Receipts.{receiptOf, placeOf}
+use Rattle.llc_state.specs.Receipts.{placeOf, withPlaces}
 use Rattle.llc_state.specs.declared.Entry.{Entry}
 use Rattle.llc_state.specs.declared.ReceiptPlace.{ReceiptPlace}
 use Rattle.llc_state.specs.declared.State.{State}
 use Rattle.llc_state.proofs.InRange.{progress-tells, submitted-fits, done-fits, message-tells, come-fits, range-tells}
-use Rattle.llc_steps.specs.States.{messagesOf}
+use Rattle.llc_steps.specs.States.{messagesOf, withMessages}
 use Rattle.llc_steps.specs.Sane.{Sane}
-use Rattle.llc_steps.specs.TickEnd.{submitted, timed, aged, retransmission, Sending, firstSending, retransmissions, firstSendings, ticked}
+use Rattle.llc_steps.specs.TickEnd.{submitted, timed, aged, retransmission, Sending, firstSending, retransmissions, firstSendings, ticked, newlyDone, isDue, afterRetransmissions, afterSendings}
 use Rattle.llc_steps.proofs.SaneSetters.{Full, places-full, Used, none-used, marked-full, messages-used, messages-sane, udata-sane, acks-sane, places-sane}
 
 -- A visit after which at most k stay, each of which passes a test, and the state is as it has to be.
@@ -71,7 +70,7 @@ pub timed-in-range :
     → messageInRange (timed time ps e) ≡ true
 timed-in-range time ps e v h =
     either (λ (x : Entry). messageInRange x ≡ true)
-    (not (e .progress .«has_umac_done») && (placeOf ps (e .sent .receipt) .taken && reported (receiptOf (placeOf ps (e .sent .receipt)))))
+    (newlyDone (placeOf ps (e .sent .receipt)) e)
     (done-in-range time e v h)
     h
 
@@ -82,7 +81,7 @@ aged-visited :
     → messageInRange e ≡ true
     → Visited messageInRange Full 1 (aged time t251 ps e)
 aged-visited time t251 ps e n h =
-    either (Visited messageInRange Full 1) (e .progress .«has_umac_done» && overdue time t251 (e .progress .«t_umac_done»))
+    either (Visited messageInRange Full 1) (isDue time t251 e)
     (by-choice (Visited messageInRange Full 1) (ltb (e .progress .«retransmit_count») 3)
     (λ t.
     record {
@@ -122,33 +121,45 @@ first-visited s e n h =
       state = marked-full Marks.reset (e .sent .receipt) (s .receipts) n;
     }))
 
--- Both passes, and the state after them.
-module _ (s : State) (store : List ℕ) (ok : Sane s store) (started : s .started ≡ true) where
-  retransmissions-visited : Visited messageInRange Full (length (messagesOf s)) (retransmissions s)
+-- Each pass leaves a state that passes question 1, and so does a tick end.
+module _ (s : State) (store : List ℕ) (ok : Sane s store) where
+  passed-sane :
+      {S R : Type 0} (Q : S → Type 0) (v : Visit S Entry R) (receipts : S → List ReceiptPlace)
+      → Visited messageInRange Q (length (messagesOf s)) v
+      → (Q (v .state) → Full (receipts (v .state)))
+      → Sane (withPlaces (withMessages s (v .stays)) (receipts (v .state))) store
+  passed-sane Q v receipts seen full =
+      places-sane
+      (messages-sane ok
+      (record { few = omega (arith, messages-used s store ok .few, seen .stays .few); each = seen .stays .each }))
+      (full (seen .state))
+
+  pub retransmissions-sane : s .started ≡ true → Sane (afterRetransmissions s) store
   unfolding retransmissions
-  retransmissions-visited =
-      visited-walk messageInRange Full (retransmission (s .dltime) (s .t251))
+  retransmissions-sane started =
+      passed-sane Full (retransmissions s) (λ ps. ps)
+      (visited-walk messageInRange Full (retransmission (s .dltime) (s .t251))
       (retransmission-visited (s .dltime) (s .t251) (range-tells s (ok .range) .head .time started))
       (s .receipts)
       (messagesOf s)
       (places-full s store ok)
-      (messages-used s store ok .each)
+      (messages-used s store ok .each))
+      (λ f. f)
 
-  first-sendings-visited : Visited messageInRange FullIn (length (retransmissions s .stays)) (firstSendings s)
+  pub sendings-sane : Sane (afterSendings s) store
   unfolding firstSendings
-  first-sendings-visited =
-      visited-walk messageInRange FullIn firstSending first-visited
-      (record { receipts = retransmissions s .state; blocked = [] })
-      (retransmissions s .stays)
-      (retransmissions-visited .state)
-      (retransmissions-visited .stays .each)
+  sendings-sane =
+      passed-sane FullIn (firstSendings s) (λ r. r .receipts)
+      (visited-walk messageInRange FullIn firstSending first-visited
+      (record { receipts = s .receipts; blocked = [] })
+      (messagesOf s)
+      (places-full s store ok)
+      (messages-used s store ok .each))
+      (λ f. f)
 
-  pub ticked-sane : Sane (ticked s) store
-  unfolding ticked
-  ticked-sane =
-      let again = retransmissions-visited in
-      let firsts = first-sendings-visited in
-      let stays : Used messageInRange 64 (firstSendings s .stays) =
-      record { few = omega (arith, messages-used s store ok .few, again .stays .few, firsts .stays .few); each = firsts .stays .each }
-      in
-      places-sane (acks-sane (udata-sane (messages-sane ok stays) (none-used _ 32)) (none-used _ 64)) (firsts .state)
+pub ticked-sane : (s : State) (store : List ℕ) → Sane s store → s .started ≡ true → Sane (ticked s) store
+unfolding ticked
+ticked-sane s store ok started =
+    udata-sane
+    (acks-sane (sendings-sane (afterRetransmissions s) store (retransmissions-sane s store ok started)) (none-used _ 64))
+    (none-used _ 32)

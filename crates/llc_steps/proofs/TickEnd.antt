@@ -8,6 +8,7 @@ use mathlib.Core.Option.{none, some}
 use lib.Dec.{ltb}
 use Rattle.lists.specs.Lists.{among, Visit, _then_, walk}
 use Rattle.lists.proofs.Choices.{ap-cond}
+use Rattle.lists.proofs.Arrays.{take-laid}
 use Rattle.tdma_time.specs.declared.TdmaTime.{TdmaTime}
 use Rattle.tx_receipt.specs.Marks as Marks
 use Rattle.llc_rule.specs.Records.{Record, acknowledged, unacknowledged}
@@ -15,16 +16,17 @@ use Rattle.llc_rule.specs.Messages as Rule
 use Rattle.llc_rule.specs.Messages.{Message, Place, overdue, reported, replyTo}
 use Rattle.llc_rule.specs.Link as Link
 use Rattle.llc_rule.specs.Step as Step
+use Rattle.llc_state.specs.States.{noEntry}
 use Rattle.llc_state.specs.Progress.{doneAt, withProgress}
 use Rattle.llc_state.specs.View.{frameIn, sentIn, messageIn, dueIn, placeIn, linkIn}
 use Rattle.llc_state.specs.declared.Entry.{Entry}
 use Rattle.llc_state.specs.declared.ReceiptPlace.{ReceiptPlace}
 use Rattle.llc_state.specs.declared.State.{State}
-use Rattle.llc_state.specs.Receipts.{receiptOf, placeOf, mark}
+use Rattle.llc_state.specs.Receipts.{receiptOf, placeOf, mark, withPlaces}
 use Rattle.llc_state.proofs.Places.{mark-in, taken-in}
 use Rattle.llc_state.proofs.Maps.{map-append, map-map}
-use Rattle.llc_steps.specs.States.{messagesOf, udataOf, acksOf, withMessages, withUdata, withAcks}
-use Rattle.llc_steps.specs.TickEnd.{submitted, timed, stay, resend, leave, aged, retransmission, Sending, firstSending, retransmissions, firstSendings, ticked, tickRecords}
+use Rattle.llc_steps.specs.States.{messagesOf, udataOf, acksOf, withMessages, withAcks}
+use Rattle.llc_steps.specs.TickEnd.{submitted, timed, stay, resend, leave, aged, retransmission, Sending, firstSending, retransmissions, firstSendings, ticked, tickRecords, afterRetransmissions, afterSendings}
 use Rattle.llc_steps.proofs.Setters.{messages-in, udata-in, acks-in, places-in}
 
 -- A walk seen through views of its state, its elements and what it puts out.
@@ -160,7 +162,11 @@ module _ (store : List ℕ) where
       walk-viewed (map placeIn) (messageIn store) handed (retransmission (s .dltime) (s .t251)) (Step.retransmission (s .dltime) (s .t251))
       (retransmission-in (s .dltime) (s .t251)) (s .receipts) (messagesOf s)
 
-  first-sendings-in : (s : State) → Step.firstSendings (linkIn s store) ≡ viewed₂ (firstSendings s)
+  -- The second finds what the first one leaves.
+  messages-left : (s : State) → messagesOf (afterRetransmissions s) ≡ retransmissions s .stays
+  messages-left s = take-laid noEntry (s .«n_messages») (retransmissions s .stays) (s .«outbound_messages»)
+
+  first-sendings-in : (s : State) → Step.firstSendings (linkIn s store) ≡ viewed₂ (firstSendings (afterRetransmissions s))
   unfolding Step.firstSendings firstSendings
   first-sendings-in s =
       ap
@@ -168,24 +174,35 @@ module _ (store : List ℕ) where
       (retransmissions-in s)
       ∙ walk-viewed sendingIn (messageIn store) handed firstSending Step.firstSending first-in
       (record { receipts = retransmissions s .state; blocked = [] }) (retransmissions s .stays)
+      ∙ ap (λ (l : List Entry). viewed₂ (walk firstSending (record { receipts = retransmissions s .state; blocked = [] }) l)) (sym (messages-left s))
 
-  -- The whole tick end.
+  -- A state with other messages and receipts, and the whole tick end.
+  passed-in :
+      (s : State) (ms : List Entry) (ps : List ReceiptPlace)
+      → linkIn (withPlaces (withMessages s ms) ps) store
+      ≡ Link.withReceipts (Link.acknowledgedNow (linkIn s store) (map (messageIn store) ms)) (map placeIn ps)
+  passed-in s ms ps =
+      places-in (withMessages s ms) store ps
+      ∙ ap (λ (l : Link.Link). Link.withReceipts l (map placeIn ps)) (messages-in s store ms)
+
   pub ticked-in : (s : State) → linkIn (ticked s) store ≡ Step.onTickEnd (linkIn s store) .state
   unfolding ticked Step.onTickEnd
   ticked-in s =
       let v = first-sendings-in s in
-      let s₁ : State = withMessages s (firstSendings s .stays) in
-      let s₂ : State = withUdata s₁ [] in
-      let s₃ : State = withAcks s₂ [] in
-      places-in s₃ store (firstSendings s .state .receipts)
-      ∙ ap₂ Link.withReceipts
+      let s₁ : State = afterRetransmissions s in
+      let s₂ : State = afterSendings s₁ in
+      let f = firstSendings s₁ in
+      udata-in (withAcks s₂ []) store []
+      ∙ ap (λ (l : Link.Link). Link.unacknowledgedNow l [])
       (acks-in s₂ store []
       ∙ ap (λ (l : Link.Link). Link.dueNow l [])
-      (udata-in s₁ store []
-      ∙ ap (λ (l : Link.Link). Link.unacknowledgedNow l [])
-      (messages-in s store (firstSendings s .stays)
-      ∙ ap (Link.acknowledgedNow (linkIn s store)) (sym (ap (λ (x : Visit Step.Sending Message Record). x .stays) v)))))
-      (sym (ap (λ (x : Visit Step.Sending Message Record). x .state .receipts) v))
+      (passed-in s₁ (f .stays) (f .state .receipts)
+      ∙ ap (λ (l : Link.Link). Link.withReceipts (Link.acknowledgedNow l (map (messageIn store) (f .stays))) (map placeIn (f .state .receipts)))
+      (passed-in s (retransmissions s .stays) (retransmissions s .state))))
+      ∙ ap
+      (λ (x : Visit Step.Sending Message Record).
+      Link.withReceipts (Link.dueNow (Link.unacknowledgedNow (Link.acknowledgedNow (linkIn s store) (x .stays)) []) []) (x .state .receipts))
+      (sym v)
 
   pub records-in : (s : State) → tickRecords s store ≡ Step.onTickEnd (linkIn s store) .records
   unfolding tickRecords Step.onTickEnd linkIn

@@ -1,6 +1,6 @@
 -- A tick end on the entries: the passes of `step` with entries in place of messages, and where everything lies afterwards.
 use Prim.Native.Nat.{ℕ, _+_}
-use mathlib.Core.Bool.{cond, not, _&&_}
+use mathlib.Core.Bool.{Bool, cond, not, _&&_}
 use mathlib.Core.List.{List, [], _∷_, _++_, map}
 use lib.Dec.{ltb}
 use Rattle.lists.specs.Lists.{among, Visit, walk}
@@ -21,13 +21,20 @@ use Rattle.llc_steps.specs.States.{messagesOf, udataOf, acksOf, withMess
 abbrev pub submitted : ℕ → Entry → Entry
 submitted k e = withProgress e (submittedAfter k (e .progress))
 
+-- Is it reported and has no done time yet? The message with its done time.
+abbrev pub newlyDone : ReceiptPlace → Entry → Bool
+newlyDone p e = not (e .progress .«has_umac_done») && (p .taken && reported (receiptOf p))
+
+abbrev pub timedBy : TdmaTime → ReceiptPlace → Entry → Entry
+timedBy time p e = cond (newlyDone p e) (withProgress e (doneAt time (e .progress))) e
+
+-- Has its time run out?
+abbrev pub isDue : TdmaTime → ℕ → Entry → Bool
+isDue time t251 e = e .progress .«has_umac_done» && overdue time t251 (e .progress .«t_umac_done»)
+
 -- One message of the first pass, submit_retransmissions_to_umac.
 abbrev pub timed : TdmaTime → List ReceiptPlace → Entry → Entry
-timed time ps e =
-    cond
-    (not (e .progress .«has_umac_done») && (placeOf ps (e .sent .receipt) .taken && reported (receiptOf (placeOf ps (e .sent .receipt)))))
-    (withProgress e (doneAt time (e .progress)))
-    e
+timed time ps e = timedBy time (placeOf ps (e .sent .receipt)) e
 
 abbrev pub stay : {S : Type 0} → S → Entry → Visit S Entry Entry
 stay s e = record { state = s; stays = e ∷ []; out = [] }
@@ -42,7 +49,7 @@ leave ps e =
 
 abbrev pub aged : TdmaTime → ℕ → List ReceiptPlace → Entry → Visit (List ReceiptPlace) Entry Entry
 aged time t251 ps e =
-    cond (e .progress .«has_umac_done» && overdue time t251 (e .progress .«t_umac_done»))
+    cond (isDue time t251 e)
     (cond (ltb (e .progress .«retransmit_count») 3) (resend ps e) (leave ps e))
     (stay ps e)
 
@@ -66,23 +73,28 @@ firstSending s e =
       out = e ∷ [];
     }))
 
+-- The first pass on a state, and the state after it.
 unfoldable pub retransmissions : State → Visit (List ReceiptPlace) Entry Entry
 retransmissions s = walk (retransmission (s .dltime) (s .t251)) (s .receipts) (messagesOf s)
 
-unfoldable pub firstSendings : State → Visit Sending Entry Entry
-firstSendings s = walk firstSending (record { receipts = retransmissions s .state; blocked = [] }) (retransmissions s .stays)
+abbrev pub afterRetransmissions : State → State
+afterRetransmissions s = withPlaces (withMessages s (retransmissions s .stays)) (retransmissions s .state)
 
--- The state after a tick end: what stays, and the other two queues empty.
+-- The second.
+unfoldable pub firstSendings : State → Visit Sending Entry Entry
+firstSendings s = walk firstSending (record { receipts = s .receipts; blocked = [] }) (messagesOf s)
+
+abbrev pub afterSendings : State → State
+afterSendings s = withPlaces (withMessages s (firstSendings s .stays)) (firstSendings s .state .receipts)
+
+-- The state after a tick end: both, and the other two queues empty.
 unfoldable pub ticked : State → State
-ticked s =
-    withPlaces
-    (withAcks (withUdata (withMessages s (firstSendings s .stays)) []) [])
-    (firstSendings s .state .receipts)
+ticked s = withUdata (withAcks (afterSendings (afterRetransmissions s)) []) []
 
 -- And its records: each message as the store has it.
 unfoldable pub tickRecords : State → List ℕ → List Record
 tickRecords s store =
     map (λ (e : Entry). acknowledged (sentIn store e)) (retransmissions s .out)
-    ++ (map (λ (e : Entry). acknowledged (sentIn store e)) (firstSendings s .out)
+    ++ (map (λ (e : Entry). acknowledged (sentIn store e)) (firstSendings (afterRetransmissions s) .out)
     ++ (map (λ (d : ScheduledOutAck). replyTo (dueIn d)) (acksOf s)
     ++ map (λ (e : Entry). unacknowledged (sentIn store e)) (udataOf s)))

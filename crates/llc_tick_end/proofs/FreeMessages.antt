@@ -22,8 +22,8 @@ use Rattle.llc_state.specs.declared.Entry.{Entry}
 use Rattle.llc_state.specs.declared.ReceiptPlace.{ReceiptPlace}
 use Rattle.llc_state.specs.declared.State.{State}
 use Rattle.llc_steps.specs.States.{messagesOf, withMessages, putMessages}
-use Rattle.llc_steps.specs.TickEnd.{submitted, stay, Sending, firstSending}
-use Rattle.llc_tick_end.specs.Passes.{sentBytesOf, sendings, afterSendings}
+use Rattle.llc_steps.specs.TickEnd.{submitted, stay, Sending, firstSending, firstSendings, afterSendings}
+use Rattle.llc_tick_end.specs.Passes.{sentBytesOf}
 use Rattle.llc_tick_end.proofs.Blocked.{Filled, none-yet, as-before, one-more}
 use Rattle.llc_tick_end.proofs.Entries.{Measures, message-measures}
 use Rattle.llc_tick_end.proofs.InPlace.{next-is, next-left, next-set, laid-over}
@@ -198,9 +198,9 @@ module _ {s : State} {store l : List ℕ} {at₀ : ℕ} {out : List ℕ} {next :
       is-free = free (h .visits .state) e f (asked p g)
 
       pub room :
-          at₀ + length (sentBytesOf store (sendings s .out)) ≤ length l
+          at₀ + length (sentBytesOf store (firstSendings s .out)) ≤ length l
           → at + length (sentBytes 1 (sentIn store e)) ≤ length out
-      unfolding sendings
+      unfolding firstSendings
       room r =
           let w : Visit Sending Entry Entry = sends (h .visits .state) e in
           let rest : List Entry = walk firstSending (w .state) (drop (i + 1) (messagesOf s)) .out in
@@ -243,8 +243,8 @@ module _ {s : State} {store l : List ℕ} {at₀ : ℕ} {out : List ℕ} {next :
 
   -- No message is left.
   module _ (none : next .«n_messages» ≤ i) where
-    whole : h .visits ≡ sendings s
-    unfolding sendings
+    whole : h .visits ≡ firstSendings s
+    unfolding firstSendings
     whole = walked (h .walking) (omega (arith, none, same-count, all-count))
 
     pub left-state : next ≡ afterSendings s
@@ -259,5 +259,5 @@ module _ {s : State} {store l : List ℕ} {at₀ : ℕ} {out : List ℕ} {next :
         ∙ ap₂ (λ (n : ℕ) (es : List Entry). withPlaces (putMessages s n es) (v .state .receipts)) (sym (h .many ∙ all)) laid-so
         ∙ ap (λ (w : Visit Sending Entry Entry). withPlaces (withMessages s (w .stays)) (w .state .receipts)) whole
 
-    pub all-written : Wrote l at₀ (sentBytesOf store (sendings s .out)) out at
+    pub all-written : Wrote l at₀ (sentBytesOf store (firstSendings s .out)) out at
     all-written = same-bytes (ap (λ (v : Visit Sending Entry Entry). sentBytesOf store (v .out)) whole) (h .wrote)

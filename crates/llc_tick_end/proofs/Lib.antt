@@ -11,6 +11,5 @@ pub mod Retransmitting
 pub mod Room
 pub mod Sendings
 pub mod SentBytes
-pub mod Stays
 pub mod Walking
 pub mod Whole

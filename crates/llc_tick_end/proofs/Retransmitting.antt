@@ -28,10 +28,9 @@ use Rattle.llc_state.specs.declared.State.{State}
 use Rattle.llc_state.proofs.InRange.{there-holds, progress-tells, message-tells, range-tells}
 use Rattle.llc_state.proofs.Lengths.{Lengths}
 use Rattle.llc_steps.specs.States.{messagesOf, withMessages}
-use Rattle.llc_steps.specs.TickEnd.{submitted, stay, resend, leave, aged, retransmission, retransmissions}
+use Rattle.llc_steps.specs.TickEnd.{submitted, stay, resend, leave, aged, retransmission, retransmissions, afterRetransmissions, newlyDone, timedBy, isDue}
 use Rattle.llc_steps.proofs.SaneTickEnd.{done-in-range}
-use Rattle.llc_tick_end.specs.Passes.{sentBytesOf, afterRetransmissions}
-use Rattle.llc_tick_end.specs.Retransmissions.{newlyDone, timedBy, isDue}
+use Rattle.llc_tick_end.specs.Passes.{sentBytesOf}
 use Rattle.llc_tick_end.proofs.Clearing.{withArrays, withCount, Clearing, clears, cleared}
 use Rattle.llc_tick_end.proofs.Compacting.{Compacting, compacts, as-was, goes, keeps}
 use Rattle.llc_tick_end.proofs.Entries.{Measures, message-measures}

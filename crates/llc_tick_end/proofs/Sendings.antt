@@ -8,8 +8,7 @@ use Rattle.lists.proofs.Choices.{either}
 use Rattle.llc_state.specs.declared.Entry.{Entry}
 use Rattle.llc_state.specs.declared.State.{State}
 use Rattle.llc_steps.specs.States.{messagesOf}
-use Rattle.llc_steps.specs.TickEnd.{Sending, firstSending}
-use Rattle.llc_tick_end.specs.Passes.{sendings}
+use Rattle.llc_steps.specs.TickEnd.{Sending, firstSending, firstSendings}
 
 -- A walk in which one element stays at each visit.
 walk-long :
@@ -34,6 +33,6 @@ one-stays s e =
     either One (e .progress .«submitted_to_umac») refl (either One (among (e .sent .ssi) (s .blocked)) refl refl)
 
 -- As many stay as there were.
-pub as-many : (s : State) → length (sendings s .stays) ≡ length (messagesOf s)
-unfolding sendings
+pub as-many : (s : State) → length (firstSendings s .stays) ≡ length (messagesOf s)
+unfolding firstSendings
 as-many s = walk-long firstSending one-stays (record { receipts = s .receipts; blocked = [] }) (messagesOf s)

@@ -1,69 +1,52 @@
 -- The four passes, one behind the other, are a tick end.
-use Prim.Native.Nat.{ℕ, _+_, _≤_}
+use Prim.Native.Nat.{ℕ, _+_, _*_, _≤_}
 use native.Mathlib.Nat.{zero-add}
 use native.Mathlib.Omega.{arith}
 use mathlib.Core.Path.{_≡_, _∙_, sym, ap}
 use mathlib.Core.Bool.{true}
 use mathlib.Core.List.{List, [], _++_}
-use lib.ListN.{length, drop, length-append, length-take}
-use Rattle.lists.specs.Lists.{all, Visit, walk}
-use Rattle.lists.specs.Arrays.{laid}
+use lib.ListN.{length, drop, length-append}
+use Rattle.lists.specs.Lists.{all}
 use Rattle.lists.specs.Writes.{Wrote}
-use Rattle.lists.proofs.Arrays.{laid-again, take-laid}
 use Rattle.lists.proofs.Writes.{_⨾_, as-long, same-bytes, write-is}
-use Rattle.llc_rule.specs.Limits.{outputBytes}
+use Rattle.bits.specs.Bits.{bits}
+use Rattle.bits.proofs.Laws.{length-bits}
+use Rattle.llc_rule.specs.Limits.{outputBytes, storeBytes}
 use Rattle.llc_rule.specs.Calls.{tickEnd}
 use Rattle.llc_rule.specs.Records.{allBytes}
 use Rattle.llc_rule.proofs.Room.{allBytes-append}
 use Rattle.llc_state.specs.Ranges.{messageInRange, udataInRange, inRange}
-use Rattle.llc_state.specs.Receipts.{withPlaces}
-use Rattle.llc_state.specs.States.{noEntry}
-use Rattle.llc_state.specs.declared.Entry.{Entry}
 use Rattle.llc_state.specs.declared.State.{State}
 use Rattle.llc_state.proofs.InRange.{range-tells}
 use Rattle.llc_state.proofs.Lengths.{Lengths}
+use Rattle.llc_steps.specs.Sane.{Sane}
 use Rattle.llc_steps.specs.Answers.{effect, answer, laidOut, delivered}
-use Rattle.llc_steps.specs.States.{messagesOf, udataOf, acksOf, withUdata, withAcks, putMessages}
+use Rattle.llc_steps.specs.States.{messagesOf, udataOf, acksOf, withUdata, withAcks}
 use Rattle.llc_steps.specs.Steps.{acts}
-use Rattle.llc_steps.specs.TickEnd.{Sending, firstSending, retransmissions, firstSendings, ticked, tickRecords}
-use Rattle.llc_tick_end.specs.Passes.{sentBytesOf, replyBytesOf, udataBytesOf, afterRetransmissions, sendings, afterSendings}
+use Rattle.llc_steps.specs.TickEnd.{retransmissions, firstSendings, ticked, tickRecords, afterRetransmissions, afterSendings}
+use Rattle.llc_steps.proofs.SaneTickEnd.{retransmissions-sane}
+use Rattle.llc_tick_end.specs.Passes.{sentBytesOf, replyBytesOf, udataBytesOf}
 use Rattle.llc_tick_end.proofs.Room.{tick-room}
-use Rattle.llc_tick_end.proofs.Stays.{stays-few, stays-in-range, stays-few-too}
 
--- The second pass finds what the first one leaves.
-messages-left : (s : State) → messagesOf (afterRetransmissions s) ≡ retransmissions s .stays
-messages-left s = take-laid noEntry (s .«n_messages») (retransmissions s .stays) (s .«outbound_messages»)
-
-sendings-are : (s : State) → sendings (afterRetransmissions s) ≡ firstSendings s
-unfolding sendings firstSendings
-sendings-are s = ap (walk firstSending (record { receipts = retransmissions s .state; blocked = [] })) (messages-left s)
-
--- The state that the passes and the two clears leave.
-passed-is :
-    (s : State)
-    → Lengths s
-    → inRange s ≡ true
-    → withUdata (withAcks (afterSendings (afterRetransmissions s)) []) [] ≡ ticked s
-unfolding ticked
-passed-is s long h =
-    let v = sendings-are s in
-    let r = range-tells s h .head in
-    let ms : List Entry = retransmissions s .stays in
-    let few : length ms ≤ s .«n_messages» =
-    omega (arith, stays-few s, length-take (s .«n_messages») (s .«outbound_messages»)) in
-    let again : laid noEntry (length ms) (sendings (afterRetransmissions s) .stays) (laid noEntry (s .«n_messages») ms (s .«outbound_messages»))
-    ≡ laid noEntry (s .«n_messages») (firstSendings s .stays) (s .«outbound_messages») =
-    ap (λ (x : Visit Sending Entry Entry). laid noEntry (length ms) (x .stays) (laid noEntry (s .«n_messages») ms (s .«outbound_messages»))) v
-    ∙ laid-again noEntry (s .«n_messages») ms (firstSendings s .stays) (s .«outbound_messages») (stays-few-too s) few
-    (omega (arith, r .messages, long .messages)) in
-    λ i. withPlaces (withAcks (withUdata (putMessages s (length (v i .stays)) (again i)) []) []) (v i .state .receipts)
+-- The state and the store of a call that passed question 1.
+pub sane : (s : State) (store : List ℕ) → Lengths s → inRange s ≡ true → length store ≡ storeBytes → Sane s (bits store)
+sane s store long range e =
+    record {
+      messages = long .messages;
+      udata = long .udata;
+      acks = long .acks;
+      places = long .places;
+      rows = long .rows;
+      range = range;
+      long = length-bits store ∙ ap (λ (n : ℕ). 8 * n) e;
+    }
 
 -- The bytes that they write.
 tick-bytes :
     (s : State) (store : List ℕ)
     → allBytes (tickRecords s store)
     ≡ sentBytesOf store (retransmissions s .out)
-    ++ (sentBytesOf store (firstSendings s .out) ++ (replyBytesOf (acksOf s) ++ udataBytesOf store (udataOf s)))
+    ++ (sentBytesOf store (firstSendings (afterRetransmissions s) .out) ++ (replyBytesOf (acksOf s) ++ udataBytesOf store (udataOf s)))
 unfolding tickRecords sentBytesOf replyBytesOf udataBytesOf
 tick-bytes s store = simp allBytes-append
 
@@ -71,7 +54,7 @@ tick-bytes s store = simp allBytes-append
 pub record Second (store : List ℕ) (s : State) (out : List ℕ) (at : ℕ) : Type 0 where
   pub few : s .«n_messages» ≤ 64
   pub entries : all messageInRange (messagesOf s) ≡ true
-  pub room : at + length (sentBytesOf store (sendings s .out)) ≤ length out
+  pub room : at + length (sentBytesOf store (firstSendings s .out)) ≤ length out
 
 pub record Third (s : State) (out : List ℕ) (at : ℕ) : Type 0 where
   pub acks : s .«n_acks» ≤ 64
@@ -82,13 +65,16 @@ pub record Fourth (store : List ℕ) (s : State) (out : List ℕ) (at : ℕ) : T
   pub entries : all udataInRange (udataOf s) ≡ true
   pub room : at + length (udataBytesOf store (udataOf s)) ≤ length out
 
-module _ (s : State) (store out : List ℕ) (long : Lengths s) (range : inRange s ≡ true) (room : outputBytes ≤ length out) (on : s .started ≡ true) where
+module _ (s : State) (store out : List ℕ) (ok : Sane s store) (room : outputBytes ≤ length out) (on : s .started ≡ true) where
+  long : Lengths s
+  long = record { messages = ok .messages; udata = ok .udata; acks = ok .acks; places = ok .places; rows = ok .rows }
+
   -- Room for all of them.
   sizes :
       length (sentBytesOf store (retransmissions s .out))
-      + (length (sentBytesOf store (firstSendings s .out)) + (length (replyBytesOf (acksOf s)) + length (udataBytesOf store (udataOf s))))
+      + (length (sentBytesOf store (firstSendings (afterRetransmissions s) .out)) + (length (replyBytesOf (acksOf s)) + length (udataBytesOf store (udataOf s))))
       ≤ length out
-  sizes = omega (arith, simp length-append at (ap length (tick-bytes s store)), tick-room s store long range, room)
+  sizes = omega (arith, simp length-append at (ap length (tick-bytes s store)), tick-room s store long (ok .range), room)
 
   pub first-room : length (sentBytesOf store (retransmissions s .out)) ≤ length out
   first-room = omega (arith, sizes)
@@ -98,22 +84,16 @@ module _ (s : State) (store out : List ℕ) (long : Lengths s) (range : inRange 
       {s₁ : State} {out₁ : List ℕ} {at₁ : ℕ}
       (e₁ : s₁ ≡ afterRetransmissions s)
       (w₁ : Wrote out 0 (sentBytesOf store (retransmissions s .out)) out₁ at₁) where
-    sent-are : sendings s₁ ≡ firstSendings s
-    sent-are = ap sendings e₁ ∙ sendings-are s
-
-    sent-bytes : sentBytesOf store (sendings s₁ .out) ≡ sentBytesOf store (firstSendings s .out)
-    sent-bytes = ap (λ (x : Visit Sending Entry Entry). sentBytesOf store (x .out)) sent-are
+    sent-bytes : sentBytesOf store (firstSendings s₁ .out) ≡ sentBytesOf store (firstSendings (afterRetransmissions s) .out)
+    sent-bytes = ap (λ (x : State). sentBytesOf store (firstSendings x .out)) e₁
 
     pub second : Second store s₁ out₁ at₁
     second =
-        let count : s₁ .«n_messages» ≡ length (retransmissions s .stays) = ap (λ (x : State). x .«n_messages») e₁ in
+        let r = range-tells (afterRetransmissions s) (retransmissions-sane s store ok on .range) in
+        let count : s₁ .«n_messages» ≡ afterRetransmissions s .«n_messages» = ap (λ (x : State). x .«n_messages») e₁ in
         record {
-          few =
-              omega (arith, count, stays-few s, length-take (s .«n_messages») (s .«outbound_messages»), range-tells s range .head .messages);
-          entries =
-              ap (λ (x : State). all messageInRange (messagesOf x)) e₁
-              ∙ ap (all messageInRange) (messages-left s)
-              ∙ stays-in-range s range on;
+          few = omega (arith, count, r .head .messages);
+          entries = ap (λ (x : State). all messageInRange (messagesOf x)) e₁ ∙ r .messages;
           room = omega (arith, sizes, w₁ .next, as-long w₁, ap length sent-bytes);
         }
 
@@ -121,7 +101,7 @@ module _ (s : State) (store out : List ℕ) (long : Lengths s) (range : inRange 
     module _
         {s₂ : State} {out₂ : List ℕ} {at₂ : ℕ}
         (e₂ : s₂ ≡ afterSendings s₁)
-        (w₂ : Wrote out₁ at₁ (sentBytesOf store (sendings s₁ .out)) out₂ at₂) where
+        (w₂ : Wrote out₁ at₁ (sentBytesOf store (firstSendings s₁ .out)) out₂ at₂) where
       both-are : s₂ ≡ afterSendings (afterRetransmissions s)
       both-are = e₂ ∙ ap (λ (x : State). afterSendings x) e₁
 
@@ -132,7 +112,7 @@ module _ (s : State) (store out : List ℕ) (long : Lengths s) (range : inRange 
       third =
           let count : s₂ .«n_acks» ≡ s .«n_acks» = ap (λ (x : State). x .«n_acks») both-are in
           record {
-            acks = omega (arith, count, range-tells s range .head .acks);
+            acks = omega (arith, count, range-tells s (ok .range) .head .acks);
             room = omega (arith, sizes, w₁ .next, w₂ .next, as-long w₁, as-long w₂, ap length sent-bytes, ap length acks-are);
           }
 
@@ -149,7 +129,7 @@ module _ (s : State) (store out : List ℕ) (long : Lengths s) (range : inRange 
 
         pub fourth : Fourth store s₃ out₃ at₃
         fourth =
-            let r = range-tells s range in
+            let r = range-tells s (ok .range) in
             let count : s₃ .«n_udata» ≡ s .«n_udata» = ap (λ (x : State). x .«n_udata») three-are in
             record {
               udata = omega (arith, count, r .head .udata);
@@ -164,16 +144,16 @@ module _ (s : State) (store out : List ℕ) (long : Lengths s) (range : inRange 
             → s₄ ≡ withUdata s₃ []
             → Wrote out₃ at₃ (udataBytesOf store (udataOf s₃)) out₄ at₄
             → effect (answer 0 s₄ at₄) store out₄ ≡ delivered s store out (acts tickEnd s store)
-        unfolding acts laidOut
+        unfolding acts laidOut ticked
         tick-end-is {s₄} {out₄} {at₄} e₄ w₄ =
             let vs : List ℕ = allBytes (tickRecords s store) in
             let w : Wrote out 0 vs out₄ at₄ =
             same-bytes (sym (tick-bytes s store)) (w₁ ⨾ (same-bytes sent-bytes w₂ ⨾ (same-bytes acks-are w₃ ⨾ same-bytes udata-are w₄))) in
-            let state : s₄ ≡ ticked s = e₄ ∙ ap (λ (x : State). withUdata x []) three-are ∙ passed-is s long range in
+            let state : s₄ ≡ ticked s = e₄ ∙ ap (λ (x : State). withUdata x []) three-are in
             let behind : 0 + length vs ≡ length vs = zero-add (length vs) in
             let bytes : out₄ ≡ vs ++ drop (length vs) out =
             w .holds
-            ∙ write-is out 0 vs (omega (arith, tick-room s store long range, room))
+            ∙ write-is out 0 vs (omega (arith, tick-room s store long (ok .range), room))
             ∙ ap (λ (k : ℕ). vs ++ drop k out) behind in
             λ i.
             record { answer = record { number = 0; state = state i; len = (w .next ∙ behind) i }; store = store; out = bytes i }

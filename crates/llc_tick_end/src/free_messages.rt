@@ -8,8 +8,9 @@ ghost use Rattle.lists.specs.Writes.{Wrote};
 ghost use Rattle.bits.specs.Bits.{bits};
 ghost use Rattle.llc_rule.specs.Limits.{storeBytes};
 ghost use Rattle.llc_state.specs.Ranges.{messageInRange};
+ghost use Rattle.llc_steps.specs.TickEnd.{firstSendings, afterSendings};
 ghost use Rattle.llc_steps.specs.States.{messagesOf};
-ghost use Rattle.llc_tick_end.specs.Passes.{sentBytesOf, sendings, afterSendings};
+ghost use Rattle.llc_tick_end.specs.Passes.{sentBytesOf};
 use crate::Passed;
 use crate::messages::put_message;
 use llc_state::State;
@@ -24,9 +25,9 @@ pub(crate) fn submit_free_messages_to_umac(
     requires { ⌜ state .«n_messages» ≤ 64 ⌝ }
     requires { ⌜ all messageInRange (messagesOf state) ≡ true ⌝ }
     requires { ⌜ length (now store) ≡ storeBytes ⌝ }
-    requires { ⌜ at + length (sentBytesOf (bits (now store)) (sendings state .out)) ≤ length (now out) ⌝ }
+    requires { ⌜ at + length (sentBytesOf (bits (now store)) (firstSendings state .out)) ≤ length (now out) ⌝ }
     ensures { λ r. ⌜ r .state ≡ afterSendings state ⌝ }
-    ensures { λ r. ⌜ Wrote (now (out .entry)) at (sentBytesOf (bits (now (store .entry))) (sendings state .out)) (now (out .exit)) (r .at) ⌝ }
+    ensures { λ r. ⌜ Wrote (now (out .entry)) at (sentBytesOf (bits (now (store .entry))) (firstSendings state .out)) (now (out .exit)) (r .at) ⌝ }
 {
     let mut at = at;
     // The SSIs that have a message under way, from `k` on.
