@@ -10,7 +10,7 @@ use Rattle.lists.specs.Lists.{all}
 use Rattle.bits.specs.Bits.{AllBytes, bits}
 use Rattle.llc_rule.specs.Calls.{Request}
 use Rattle.llc_rule.specs.Seen.{SeesItsOwnPast, SeesTheSame, calls, ruleAfter, ruleSights, ruled, unhindered}
-use Rattle.llc_rule.specs.Sendings.{AtMostFour, requestOf, sendings}
+use Rattle.llc_rule.specs.Sendings.{AtMostFour, requestSpelled, sendings}
 use Rattle.llc_rule.specs.Past.{heldBy, holdersAfter, past, sight, strays, takenFrom}
 use Rattle.llc_rule.specs.Rule.{atFirst}
 use Rattle.llc_rule.proofs.Applied.{secondRequest}
@@ -21,7 +21,7 @@ use Rattle.llc_steps.specs.Answers.{effect}
 use Rattle.llc.specs.Determined.{Left, NoLeavesAll, OneAnswer}
 use Rattle.llc.specs.Entry.{callOf}
 use Rattle.llc_runs.specs.Claim.{Claim, receiptsAfter}
-use Rattle.llc_runs.specs.Heard.{heard}
+use Rattle.llc_runs.specs.Heard.{heardOf}
 use Rattle.llc_runs.specs.Runs.{Lent, after, begin, exchange, left, run}
 use Rattle.llc_runs.proofs.Applied.{askedAt}
 use Rattle.llc_runs.proofs.Instance.{laterLents, lentSecond, lents, started, tooShort, turnedLents, zeroStore}
@@ -51,7 +51,7 @@ pub record Runs : Type 0 where
   pub few :
       (store : List ℕ) (before : List Lent) (c : Lent) (r : Request) (later : List Lent)
       → exchange (after (begin store) before) c .number ≡ 0
-      → requestOf (c .call) ≡ some r
+      → requestSpelled (c .call) ≡ some r
       → length (sendings (r .receipt) (run (left (after (begin store) before) c) later)) ≤ 4
   pub one :
       (s : State) (store out bytes : List ℕ) (l m : Left)
@@ -64,8 +64,8 @@ pub record Runs : Type 0 where
   pub unhindered-lents : unhindered (run (begin zeroStore) lents) ≡ true
   pub sees-lents : (a : ℕ) → SeesItsOwnPast (run (begin zeroStore) lents) (receiptsAfter zeroStore lents) a
   pub unhindered-turned-lents : unhindered (run (begin zeroStore) turnedLents) ≡ true
-  pub kinds-lents : all (hasKind (heard (run (begin zeroStore) lents))) (1 ∷ 2 ∷ 3 ∷ 4 ∷ 5 ∷ []) ≡ true
-  pub numbers-lents : all (hasNumber (heard (run (begin zeroStore) lents))) (0 ∷ 3 ∷ 4 ∷ 15 ∷ 16 ∷ []) ≡ true
+  pub kinds-lents : all (hasKind (heardOf (run (begin zeroStore) lents))) (1 ∷ 2 ∷ 3 ∷ 4 ∷ 5 ∷ []) ≡ true
+  pub numbers-lents : all (hasNumber (heardOf (run (begin zeroStore) lents))) (0 ∷ 3 ∷ 4 ∷ 15 ∷ 16 ∷ []) ≡ true
   pub one-lent : eqb (exchange (after (begin zeroStore) started) tooShort .number) 1 ≡ true
   -- Two of its calls change places, and change back.
   pub swap-lents :

@@ -12,10 +12,10 @@ use Rattle.tdma_time.specs.declared.TdmaTime.{TdmaTime}
 use Rattle.llc_rule.specs.Limits.{placeBits, storeBytes, storePlaces}
 use Rattle.llc_rule.specs.Link.{new, startedWith, withTime}
 use Rattle.llc_rule.specs.Step.{step}
-use Rattle.llc_state.specs.View.{frameIn, linkIn, placeBit}
+use Rattle.llc_state.specs.View.{frameAt, linkIn, placeBit}
 use Rattle.llc_state.specs.States.{atTime, newState, startedState}
 use Rattle.llc_state.specs.InUse.{used}
-use Rattle.llc_state.specs.Ranges.{inRange}
+use Rattle.llc_state.specs.Ranges.{stateInRange}
 use Rattle.llc_state.specs.declared.State.{State}
 use Rattle.llc_state.specs.declared.Entry.{Entry}
 use Rattle.llc_state.proofs.Lengths.{Lengths}
@@ -29,17 +29,17 @@ pub record StateAndStore : Type 0 where
   pub new-in : (store : List ℕ) → linkIn newState store ≡ new
   pub started-in : (carrier t251 : ℕ) (store : List ℕ) → linkIn (startedState carrier t251) store ≡ startedWith carrier t251
   pub time-in : (s : State) (ts : TdmaTime) (store : List ℕ) → linkIn (atTime s ts) store ≡ withTime (linkIn s store) ts
-  pub new-in-range : inRange newState ≡ true
-  pub started-in-range : (carrier t251 : ℕ) → ltb 0 t251 ≡ true → inRange (startedState carrier t251) ≡ true
-  pub time-in-range : (s : State) (ts : TdmaTime) → inRange s ≡ true → valid ts ≡ true → inRange (atTime s ts) ≡ true
+  pub new-in-range : stateInRange newState ≡ true
+  pub started-in-range : (carrier t251 : ℕ) → ltb 0 t251 ≡ true → stateInRange (startedState carrier t251) ≡ true
+  pub time-in-range : (s : State) (ts : TdmaTime) → stateInRange s ≡ true → valid ts ≡ true → stateInRange (atTime s ts) ≡ true
   -- Question 1 and the link look only at what is in use, and before a start a call looks only at that.
-  pub used-asked : (s : State) → inRange (used s) ≡ inRange s
+  pub used-asked : (s : State) → stateInRange (used s) ≡ stateInRange s
   pub used-seen : (s : State) (store : List ℕ) → linkIn (used s) store ≡ linkIn s store
   pub steps-not-started : (s : State) (store bytes : List ℕ) → s .started ≡ false → steps s store bytes ≡ steps newState store bytes
   -- What a call on a state and a store gives, as a link, is what `step` gives on the link that they hold.
   pub steps-in : (s : State) (store : List ℕ) → Ready s store → (bytes : List ℕ) → keptIn (steps s store bytes) ≡ step (linkIn s store) bytes
   -- The arrays have their lengths in every state that the code has (`lengths` of llc_state).
-  pub ready : (s : State) (store : List ℕ) → Lengths s → inRange s ≡ true → length store ≡ 8 * storeBytes → Ready s store
+  pub ready : (s : State) (store : List ℕ) → Lengths s → stateInRange s ≡ true → length store ≡ 8 * storeBytes → Ready s store
   -- What a call of any bytes leaves of a state and a store that passed question 1 passes it.
   pub steps-sane :
       (s : State) (store bytes : List ℕ)
@@ -70,4 +70,4 @@ pub record StateAndStore : Type 0 where
       → eqb (e .frame .place) p ≡ false
       → length vs ≤ placeBits
       → e .frame .len ≤ placeBits
-      → frameIn (splice store (placeBit p) vs) e ≡ frameIn store e
+      → frameAt (splice store (placeBit p) vs) e ≡ frameAt store e

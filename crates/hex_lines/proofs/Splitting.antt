@@ -25,11 +25,6 @@ unfolding linesOf
 last-line c [] n = rw (n .0)
 last-line c (d ∷ l) n = rw (n .0, last-line d l (n .1))
 
--- Nothing is behind a last line end.
-pub one-line : (l : List ℕ) → NoEnd l → linesOf (l ++ (lineEnd ∷ [])) ≡ l ∷ []
-unfolding linesOf
-one-line l n = whole-line l n []
-
 no-end-more : (ps : List ℕ) (c : ℕ) → NoEnd ps → eqb c lineEnd ≡ false → NoEnd (ps ++ (c ∷ []))
 no-end-more [] c n e = (e, tt)
 no-end-more (p ∷ ps) c n e = (n .0, no-end-more ps c (n .1) e)

@@ -6,8 +6,8 @@ use mathlib.Core.Bool.{Bool}
 use mathlib.Core.List.{List, [], _∷_, _++_, append-assoc}
 use borrow.Author.Tests.{lt-ltb}
 use lib.Dec.{ltb}
-use lib.ListN.{length, take, drop, getD, set, replicate, length-append, length-take, length-drop, length-replicate, take-append-drop, replicate-append-replicate}
-use lib.Seq.{length-take-le, take-append-seam, drop-append-seam, set-split}
+use lib.ListN.{length, take, drop, getD, set, replicate, length-append, length-take, length-drop, length-replicate, take-append-drop}
+use lib.Seq.{length-take-le, take-append-seam, set-split}
 use Rattle.lists.specs.Lists.{any, Found, nothing, first, behind, find, others}
 use Rattle.lists.specs.Arrays.{position, without, laid}
 use Rattle.lists.proofs.Choices.{by-test}
@@ -161,25 +161,6 @@ module _ {A : Type 0} where
       → length (laid empty n used l) ≡ length l
   unfolding laid
   length-laid empty n used l h k = simp (length-append, length-replicate, length-drop) (omega arith)
-
-  -- Other elements in use once more, at most as many.
-  pub laid-again :
-      (empty : A) (n : ℕ) (used more l : List A)
-      → length more ≤ length used
-      → length used ≤ n
-      → n ≤ length l
-      → laid empty (length used) more (laid empty n used l) ≡ laid empty n more l
-  laid-again empty n used more l h k m =
-      let e : (length used - length more) + (n - length used) ≡ n - length more = omega arith in
-      rw (
-        laid-fewer empty n used l k,
-        laid-fewer empty (length used) more (used ++ (replicate (n - length used) empty ++ drop n l)) h,
-        laid-fewer empty n more l (omega arith),
-        drop-append-seam,
-        ← append-assoc (replicate (length used - length more) empty) (replicate (n - length used) empty) (drop n l),
-        replicate-append-replicate,
-        e,
-      )
 
   -- The elements in use are the first of the array.
   pub take-laid : (empty : A) (n : ℕ) (used l : List A) → take (length used) (laid empty n used l) ≡ used

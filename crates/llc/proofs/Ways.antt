@@ -25,27 +25,27 @@ use Rattle.llc_calls.specs.declared.Decoded.{Decoded}
 use Rattle.llc_calls.specs.declared.Decoded.the-variants.{Start, TickStart, TickEnd, Request, Frame, ByReceipt, Unfilled, Unknown}
 use Rattle.llc_calls.proofs.Decoded.{the-type}
 use Rattle.llc_calls.proofs.Laws.{inRangeIn, same-range, in-range}
-use Rattle.llc_state.specs.Ranges.{inRange}
+use Rattle.llc_state.specs.Ranges.{stateInRange}
 use Rattle.llc_state.specs.declared.State.{State}
 use Rattle.llc_steps.specs.States.{Kept, kept}
 use Rattle.llc_steps.specs.declared.Answer.{Answer}
 use Rattle.llc_steps.specs.Answers.{Effect, effect, answer, laidOut, delivered}
 use Rattle.llc_steps.specs.Steps.{called, steps}
-use Rattle.llc.specs.Entry.{lentRight, answered, callOf}
+use Rattle.llc.specs.Entry.{lentRight, outcomeOf, callOf}
 use Rattle.llc.specs.Questions.{questionOf, FirstNo, performed}
 
 -- Question 1.
 pub lent-wrong :
     (s : State) (store out bytes : List ℕ) → lentRight store out ≡ false → effect (answer 1 s 0) store out ≡ callOf s store out bytes
-unfolding callOf answered
+unfolding callOf outcomeOf
 lent-wrong s store out bytes h = rw h
 
 pub out-of-range :
     (s : State) (store out bytes : List ℕ)
     → lentRight store out ≡ true
-    → inRange s ≡ false
+    → stateInRange s ≡ false
     → effect (answer 1 s 0) store out ≡ callOf s store out bytes
-unfolding callOf answered
+unfolding callOf outcomeOf
 out-of-range s store out bytes h r = rw (h, r)
 
 -- A call that passes questions 4 and 5 is a start or finds the link started, and is in range.
@@ -78,9 +78,9 @@ told-one (accepted c) s store h =
 
 module _
     (s : State) (store out bytes : List ℕ) (d : Decoded)
-    (lent : lentRight store out ≡ true) (range : inRange s ≡ true) (read : decoded d bytes ≡ parsed bytes) where
+    (lent : lentRight store out ≡ true) (range : stateInRange s ≡ true) (read : decoded d bytes ≡ parsed bytes) where
   called-is : callOf s store out bytes ≡ delivered s store out (called s store (decoded d bytes))
-  unfolding callOf answered steps
+  unfolding callOf outcomeOf steps
   called-is = rw (lent, range, read)
 
   pub turned-down :
@@ -170,7 +170,7 @@ lent-tells store out h =
 
 -- What is known once a call has passed questions 1 to 5.
 pub record Passed (s : State) (store out bytes : List ℕ) (d : Decoded) : Type 0 where
-  pub state : inRange s ≡ true
+  pub state : stateInRange s ≡ true
   pub places : length store ≡ storeBytes
   pub room : outputBytes ≤ length out
   pub inside : Inside d bytes
@@ -181,7 +181,7 @@ pub passed :
     (s : State) (store out bytes : List ℕ) (d : Decoded) {lent fits : Bool} {n : ℕ}
     → lent ≡ lentRight (bits store) out
     → not lent ≡ false
-    → fits ≡ inRange s
+    → fits ≡ stateInRange s
     → not fits ≡ false
     → decoded d bytes ≡ parsed bytes
     → Inside d bytes
@@ -190,7 +190,7 @@ pub passed :
     → Passed s store out bytes d
 passed s store out bytes d {lent} {fits} l t f u read inside q z =
     let right : lentRight (bits store) out ≡ true = sym l ∙ not-false lent t in
-    let range : inRange s ≡ true = sym f ∙ not-false fits u in
+    let range : stateInRange s ≡ true = sym f ∙ not-false fits u in
     let none : questionOf (decoded d bytes) (s .started) ≡ 0 = sym (q .each bytes inside) ∙ z in
     let long = lent-tells store out right in
     record {
@@ -251,7 +251,7 @@ len-fits-by s store out (refused n) = omega arith
 
 len-fits : (s : State) (store out bytes : List ℕ) → callOf s store out bytes .answer .len ≤ length (callOf s store out bytes .out)
 unfolding callOf
-len-fits s store out bytes = len-fits-by s store out (answered s store out bytes)
+len-fits s store out bytes = len-fits-by s store out (outcomeOf s store out bytes)
 
 pub told-fits :
     (s : State) (store out bytes : List ℕ) {r : Answer} {after left : List ℕ}

@@ -6,7 +6,7 @@ use lib.Dec.{eqb, leb}
 use lib.ListN.{length}
 use Rattle.questions.specs.Outcome.{Outcome, ask}
 use Rattle.llc_rule.specs.Limits.{outputBytes, storeBytes}
-use Rattle.llc_state.specs.Ranges.{inRange}
+use Rattle.llc_state.specs.Ranges.{stateInRange}
 use Rattle.llc_state.specs.declared.State.{State}
 use Rattle.llc_steps.specs.States.{Kept}
 use Rattle.llc_steps.specs.Answers.{Effect, delivered}
@@ -18,9 +18,9 @@ unfoldable pub lentRight : List ℕ → List ℕ → Bool
 lentRight store out = eqb (length store) (8 * storeBytes) && leb outputBytes (length out)
 
 -- All questions, and what an accepted call leaves and gives.
-unfoldable pub answered : State → List ℕ → List ℕ → List ℕ → Outcome Kept
-answered s store out bytes = ask 1 (lentRight store out && inRange s) (steps s store bytes)
+unfoldable pub outcomeOf : State → List ℕ → List ℕ → List ℕ → Outcome Kept
+outcomeOf s store out bytes = ask 1 (lentRight store out && stateInRange s) (steps s store bytes)
 
 -- One call: number, next state, the store's bits and every byte of the output.
 unfoldable pub callOf : State → List ℕ → List ℕ → List ℕ → Effect
-callOf s store out bytes = delivered s store out (answered s store out bytes)
+callOf s store out bytes = delivered s store out (outcomeOf s store out bytes)

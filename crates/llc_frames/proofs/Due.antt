@@ -9,7 +9,7 @@ use Rattle.llc_rule.specs.Messages.{slotBefore}
 use Rattle.llc_calls.specs.declared.FrameCall.{FrameCall}
 use Rattle.llc_received.specs.Numbers.{numberIf, nsIn}
 use Rattle.llc_received.specs.declared.numbers.SeqNumbers.{SeqNumbers}
-use Rattle.llc_state.specs.Ranges.{messageInRange, inRange}
+use Rattle.llc_state.specs.Ranges.{messageInRange, stateInRange}
 use Rattle.llc_state.specs.declared.State.{State}
 use Rattle.llc_state.proofs.InRange.{range-tells}
 use Rattle.llc_steps.specs.Calls.{ackRoom}
@@ -42,7 +42,7 @@ module _ (s : State) (f : FrameCall) (n : SeqNumbers) where
   pub same-queue :
       {next : State}
       → next ≡ withAcks s (dueTo f (nsIn n) s)
-      → inRange s ≡ true
+      → stateInRange s ≡ true
       → (next .«n_messages» ≤ 64) × (all messageInRange (messagesOf next) ≡ true)
   same-queue e h =
       let r = range-tells s h in

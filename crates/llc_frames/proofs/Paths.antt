@@ -28,7 +28,7 @@ use Rattle.llc_calls.specs.Decoded.{frameOf, FrameInside}
 use Rattle.llc_calls.specs.Ranges.{frameRange}
 use Rattle.llc_calls.specs.declared.FrameCall.{FrameCall}
 use Rattle.llc_received.specs.Numbers.{numberIf, nsIn, nrIn}
-use Rattle.llc_received.specs.Reading.{readingOf, SduIn, SduInside}
+use Rattle.llc_received.specs.Reading.{receivedAs, SduIn, SduInside}
 use Rattle.llc_received.specs.Upward.{SduLent}
 use Rattle.llc_received.specs.declared.numbers.SeqNumbers.{SeqNumbers}
 use Rattle.llc_received.specs.declared.reading.Reading.{Reading}
@@ -240,9 +240,9 @@ module _ (s : State) (f : FrameCall) (b : List ℕ) where
   unfolding frameOf
   lent-is = ap (λ (l : List ℕ). take (f .«pdu_len») (bits l)) (lent b (f .pdu))
 
-  read-is : {x y : Reading} → x ≡ y → readingOf x lentBits ≡ received lentBits → readingOf y (frameOf f b .pdu) ≡ received (frameOf f b .pdu)
+  read-is : {x y : Reading} → x ≡ y → receivedAs x lentBits ≡ received lentBits → receivedAs y (frameOf f b .pdu) ≡ received (frameOf f b .pdu)
   read-is {x} {y} e h =
-      sym (ap₂ readingOf e lent-is) ∙ h ∙ ap received lent-is
+      sym (ap₂ receivedAs e lent-is) ∙ h ∙ ap received lent-is
 
   -- The part that the reader hands back of an SDU that was read: its number is 0, and it holds what goes up.
   abbrev lentBytes : List ℕ
@@ -287,7 +287,7 @@ module _ (s : State) (f : FrameCall) (b : List ℕ) where
   pub of-frame :
       {r : Answer} {out m : List ℕ} {x : Reading} {p : Pdu} {k : ℕ} {l : List ℕ} {t : Sdu}
       → x ≡ Reading.Frame p t
-      → readingOf x lentBits ≡ received lentBits
+      → receivedAs x lentBits ≡ received lentBits
       → Handed k l t
       → WithAnyStore r m s out
       (λ (store : List ℕ). onReceived (frameOf f b) (accepted (record { header = p; sdu = part (bits l) (t .place) (t .len) })) s store)
@@ -295,7 +295,7 @@ module _ (s : State) (f : FrameCall) (b : List ℕ) where
   of-frame {r = r} {out = out} {m = m} {p = p} e h q w =
       subst (λ (o : Outcome Received). WithAnyStore r m s out (λ (store : List ℕ). onReceived (frameOf f b) o s store))
       (ap (λ (y : List ℕ). accepted (record { header = p; sdu = y })) (q .same)
-      ∙ sym (ap (λ (y : Reading). readingOf y lentBits) e)
+      ∙ sym (ap (λ (y : Reading). receivedAs y lentBits) e)
       ∙ h
       ∙ ap received lent-is)
       w
@@ -303,7 +303,7 @@ module _ (s : State) (f : FrameCall) (b : List ℕ) where
   pub of-refused :
       {r : Answer} (out : List ℕ) {x : Reading} {k : ℕ}
       → x ≡ Reading.Refused k
-      → readingOf x lentBits ≡ received lentBits
+      → receivedAs x lentBits ≡ received lentBits
       → r ≡ answer k s 0
       → WithAnyStore r out s out (λ (store : List ℕ). onReceived (frameOf f b) (received (frameOf f b .pdu)) s store)
   unfolding onReceived

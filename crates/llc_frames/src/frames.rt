@@ -15,7 +15,7 @@ ghost use Rattle.llc_calls.specs.Decoded.{frameOf, FrameInside};
 ghost use Rattle.llc_calls.specs.Ranges.{frameRange};
 ghost use Rattle.llc_received.specs.Numbers.{nsIn};
 ghost use Rattle.llc_received.specs.Upward.{SduLent};
-ghost use Rattle.llc_state.specs.Ranges.{messageInRange, inRange};
+ghost use Rattle.llc_state.specs.Ranges.{messageInRange, stateInRange};
 ghost use Rattle.llc_steps.specs.Answers.{WithAnyStore};
 ghost use Rattle.llc_steps.specs.Calls.{ackRoom, fits as fitsTo, finishable, answeredBy, onReceived};
 ghost use Rattle.llc_steps.specs.States.{messagesOf, withAcks};
@@ -60,7 +60,7 @@ fn fits(e: Entry, nr: bool) -> bool
 
 // If an N(R) finishes the message of a place, is its receipt taken, and may it be marked as acknowledged?
 fn may_finish(state: State, i: usize, nr: bool) -> bool
-    requires { ⌜ inRange state ≡ true ⌝ }
+    requires { ⌜ stateInRange state ≡ true ⌝ }
     ensures { λ r. ⌜ r ≡ finishable nr (foundAt i (messagesOf state)) state ⌝ }
 {
     if state.n_messages <= i {
@@ -94,7 +94,7 @@ fn process_incoming_ack(state: State, i: usize, nr: bool) -> State
 
 // A frame with an N(S) makes an acknowledgement due.
 fn acknowledge(state: State, f: FrameCall, numbers: SeqNumbers) -> State
-    requires { ⌜ inRange state ≡ true ⌝ }
+    requires { ⌜ stateInRange state ≡ true ⌝ }
     requires { ⌜ ackRoom (nsIn numbers) state ≡ true ⌝ }
     requires { ⌜ state .started ≡ true ⌝ }
     ensures { λ r. ⌜ r ≡ withAcks state (dueTo f (nsIn numbers) state) ⌝ }
@@ -123,7 +123,7 @@ fn rx_tma_unitdata_ind_bl(
     place: usize,
     len: usize,
 ) -> Answer
-    requires { ⌜ inRange state ≡ true ⌝ }
+    requires { ⌜ stateInRange state ≡ true ⌝ }
     requires { ⌜ outputBytes ≤ length (now out) ⌝ }
     requires { ⌜ frameRange f ≡ true ⌝ }
     requires { ⌜ FrameInside f (now bytes) ⌝ }
@@ -150,7 +150,7 @@ fn rx_tma_unitdata_ind_bl(
 
 /// A frame: what goes up of it is taken from the part that the reader hands back.
 pub fn rx_tma_unitdata_ind(state: State, out: &mut [u8], f: FrameCall, bytes: &[u8]) -> Answer
-    requires { ⌜ inRange state ≡ true ⌝ }
+    requires { ⌜ stateInRange state ≡ true ⌝ }
     requires { ⌜ outputBytes ≤ length (now out) ⌝ }
     requires { ⌜ frameRange f ≡ true ⌝ }
     requires { ⌜ FrameInside f (now bytes) ⌝ }

@@ -3,7 +3,7 @@ ghost use Prim.Native.Nat.{ℕ, _<_};
 ghost use mathlib.Core.Path.{_≡_};
 ghost use mathlib.Core.Bool.{true};
 ghost use mathlib.Core.List.{List};
-ghost use Rattle.llc_state.specs.Ranges.{inRange};
+ghost use Rattle.llc_state.specs.Ranges.{stateInRange};
 ghost use Rattle.llc_steps.specs.Answers.{WithAny};
 ghost use Rattle.llc_steps.specs.Calls.{onReport, onRelease};
 use llc_queues::holds;
@@ -13,7 +13,7 @@ use llc_steps::Answer;
 
 /// A report: 1 transmitted, 2 discarded.
 pub fn rx_tma_report_ind(mut state: State, receipt: u8, how: u8) -> Answer
-    requires { ⌜ inRange state ≡ true ⌝ }
+    requires { ⌜ stateInRange state ≡ true ⌝ }
     requires { ⌜ receipt < 128 ⌝ }
     ensures { λ r. ⌜ WithAny r state (λ (store : List ℕ). onReport receipt how state store) ⌝ }
 {
@@ -36,7 +36,7 @@ pub fn rx_tma_report_ind(mut state: State, receipt: u8, how: u8) -> Answer
 
 /// A release: a receipt that is final, and whose message is no longer held, is free again.
 pub fn release(state: State, receipt: u8) -> Answer
-    requires { ⌜ inRange state ≡ true ⌝ }
+    requires { ⌜ stateInRange state ≡ true ⌝ }
     requires { ⌜ receipt < 128 ⌝ }
     ensures { λ r. ⌜ WithAny r state (λ (store : List ℕ). onRelease receipt state store) ⌝ }
 {

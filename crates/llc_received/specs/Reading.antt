@@ -10,9 +10,9 @@ use Rattle.llc_rule.specs.Received.{Received}
 use Rattle.llc_received.specs.declared.reading.Reading.{Reading}
 
 -- The answer about the bits of a frame.
-abbrev pub readingOf : Reading → List ℕ → Outcome Received
-readingOf (Reading.Frame p s) l = accepted (record { header = p; sdu = part l (s .first) (s .len) })
-readingOf (Reading.Refused n) l = refused n
+abbrev pub receivedAs : Reading → List ℕ → Outcome Received
+receivedAs (Reading.Frame p s) l = accepted (record { header = p; sdu = part l (s .first) (s .len) })
+receivedAs (Reading.Refused n) l = refused n
 
 -- An SDU lies in the n bits of its frame, with its place beside it.
 pub record SduIn (s : Sdu) (n : ℕ) : Type 0 where

@@ -5,7 +5,7 @@ ghost use lib.ListN.{length, take};
 ghost use Rattle.bits.specs.Bits.{bits};
 ghost use Rattle.llc_pdus.specs.Headers.{hasFcs};
 ghost use Rattle.llc_rule.specs.Received.{received};
-ghost use Rattle.llc_received.specs.Reading.{readingOf, SduInside};
+ghost use Rattle.llc_received.specs.Reading.{receivedAs, SduInside};
 use fcs::Checked;
 use fcs::check_fcs;
 use llc_pdus::Pdu;
@@ -42,7 +42,7 @@ pub fn has_fcs(pdu: Pdu) -> bool
 /// onwards, and runs over all bits behind the header.
 pub fn read(frame: &[u8], len: usize) -> Reading
     requires { ⌜ len ≤ 8 * length (now frame) ⌝ }
-    ensures { λ r. ⌜ readingOf r (take len (bits (now (frame .entry)))) ≡ received (take len (bits (now (frame .entry)))) ⌝ }
+    ensures { λ r. ⌜ receivedAs r (take len (bits (now (frame .entry)))) ≡ received (take len (bits (now (frame .entry)))) ⌝ }
     ensures { λ r. ⌜ SduInside r len ⌝ }
 {
     match from_bitbuf(frame, len) {

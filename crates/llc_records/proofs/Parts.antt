@@ -15,7 +15,7 @@ use Rattle.bits.proofs.Laws.{length-toBits, value-toBits, length-bits, length-p
 use Rattle.llc_pdus.specs.declared.Pdu.the-variants.{BlAck}
 use Rattle.llc_pdus.specs.Headers.{bit, header}
 use Rattle.llc_rule.specs.Calls.{toBytes}
-use Rattle.llc_rule.specs.Records.{field, number, packed, pack, counted, countedIfAny, masked}
+use Rattle.llc_rule.specs.Records.{field, numberField, packed, pack, counted, countedIfAny, masked}
 use Rattle.llc_rule.proofs.Records.{length-toBytes, length-packed}
 use Rattle.llc_records.specs.Records.{maskIf}
 
@@ -37,7 +37,7 @@ unfolding toBytes
 bytes-none v = refl
 
 -- A number's field is its tag, its length and its bytes.
-pub number-is : (tag n v : ℕ) → (tag ∷ []) ++ (toBytes 2 n ++ toBytes n v) ≡ number tag n v
+pub number-is : (tag n v : ℕ) → (tag ∷ []) ++ (toBytes 2 n ++ toBytes n v) ≡ numberField tag n v
 number-is tag n v = ap (λ (k : ℕ). tag ∷ toBytes 2 k ++ toBytes n v) (sym (length-toBytes n v))
 
 -- Blocks ------------------------------------------------------------------------------------------------------------------
@@ -249,7 +249,7 @@ unfolding countedIfAny
 any-some [] h = absurd (omega arith)
 any-some (b ∷ l) h = refl
 
-pub mask-there : (has : Bool) (m : ℕ) → has ≡ true → number 0x09 1 m ≡ masked (maskIf has m)
+pub mask-there : (has : Bool) (m : ℕ) → has ≡ true → numberField 0x09 1 m ≡ masked (maskIf has m)
 unfolding masked
 mask-there true m h = refl
 mask-there false m h = cc
@@ -259,21 +259,21 @@ unfolding masked
 mask-gone true m h = cc
 mask-gone false m h = refl
 
-pub flag-set : (tag : ℕ) (b : Bool) → b ≡ true → number tag 1 1 ≡ number tag 1 (bit b)
+pub flag-set : (tag : ℕ) (b : Bool) → b ≡ true → numberField tag 1 1 ≡ numberField tag 1 (bit b)
 flag-set tag true h = refl
 flag-set tag false h = cc
 
-pub flag-clear : (tag : ℕ) (b : Bool) → b ≡ false → number tag 1 0 ≡ number tag 1 (bit b)
+pub flag-clear : (tag : ℕ) (b : Bool) → b ≡ false → numberField tag 1 0 ≡ numberField tag 1 (bit b)
 flag-clear tag true h = cc
 flag-clear tag false h = refl
 
 -- The five bits of a BL-ACK as field 0C: one byte behind their count.
-pub ack-set : (nr : Bool) → nr ≡ true → number 0x0C 3 0x0538 ≡ counted (header (BlAck false nr))
+pub ack-set : (nr : Bool) → nr ≡ true → numberField 0x0C 3 0x0538 ≡ counted (header (BlAck false nr))
 unfolding counted packed value toBytes
 ack-set true h = refl
 ack-set false h = cc
 
-pub ack-clear : (nr : Bool) → nr ≡ false → number 0x0C 3 0x0530 ≡ counted (header (BlAck false nr))
+pub ack-clear : (nr : Bool) → nr ≡ false → numberField 0x0C 3 0x0530 ≡ counted (header (BlAck false nr))
 unfolding counted packed value toBytes
 ack-clear true h = cc
 ack-clear false h = refl

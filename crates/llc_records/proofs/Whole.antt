@@ -9,7 +9,7 @@ use Rattle.bits.specs.Bits.{bits, part}
 use Rattle.bits.proofs.Laws.{length-part}
 use Rattle.llc_pdus.specs.declared.Pdu.the-variants.{BlAck}
 use Rattle.llc_pdus.specs.Headers.{bit, header}
-use Rattle.llc_rule.specs.Records.{number, masked, counted, countedIfAny, sentBytes, replyBytes, indicationBytes}
+use Rattle.llc_rule.specs.Records.{numberField, masked, counted, countedIfAny, sentBytes, replyBytes, indicationBytes}
 use Rattle.llc_rule.proofs.Records.{length-sent, length-reply, length-indication, length-masked, length-countedIfAny}
 use Rattle.llc_records.specs.declared.SentRecord.{SentRecord}
 use Rattle.llc_records.specs.declared.ReplyRecord.{ReplyRecord}
@@ -35,8 +35,8 @@ pub sent-is :
     ≡ sentBytes k (sent s block pdu)
 unfolding sentBytes
 sent-is k s block pdu =
-    regroup (number 0x01 1 k) (number 0x02 3 (s .ssi)) (number 0x03 1 (s .«ssi_type»)) (number 0x04 2 (s .carrier))
-    (number 0x05 4 (s .link)) (number 0x06 4 (s .endpoint)) (number 0x07 4 (s .handle)) (number 0x08 1 (bit (s .steal)))
+    regroup (numberField 0x01 1 k) (numberField 0x02 3 (s .ssi)) (numberField 0x03 1 (s .«ssi_type»)) (numberField 0x04 2 (s .carrier))
+    (numberField 0x05 4 (s .link)) (numberField 0x06 4 (s .endpoint)) (numberField 0x07 4 (s .handle)) (numberField 0x08 1 (bit (s .steal)))
     (masked (maskIf (s .«has_mask») (s .mask)))
     (downFields (s .receipt) block pdu)
 
@@ -48,8 +48,8 @@ pub reply-is :
     ≡ replyBytes (reply s)
 unfolding replyBytes
 reply-is s =
-    regroup (number 0x01 1 2) (number 0x02 3 (s .ssi)) (number 0x03 1 (s .«ssi_type»)) (number 0x04 2 (s .carrier))
-    (number 0x05 4 (s .link)) (number 0x06 4 0) (number 0x07 4 0) (number 0x08 1 (bit (s .steal)))
+    regroup (numberField 0x01 1 2) (numberField 0x02 3 (s .ssi)) (numberField 0x03 1 (s .«ssi_type»)) (numberField 0x04 2 (s .carrier))
+    (numberField 0x05 4 (s .link)) (numberField 0x06 4 0) (numberField 0x07 4 0) (numberField 0x08 1 (bit (s .steal)))
     (masked (maskIf (s .«has_mask») (s .mask)))
     (counted (header (BlAck false (s .nr))))
 
@@ -59,8 +59,8 @@ pub indication-is :
     ≡ indicationBytes k (indication s block sdu)
 unfolding indicationBytes
 indication-is k s block sdu =
-    regroup-up (number 0x01 1 k) (number 0x02 3 (s .ssi)) (number 0x03 1 (s .«ssi_type»))
-    (number 0x05 4 (s .link)) (number 0x06 4 (s .endpoint))
+    regroup-up (numberField 0x01 1 k) (numberField 0x02 3 (s .ssi)) (numberField 0x03 1 (s .«ssi_type»))
+    (numberField 0x05 4 (s .link)) (numberField 0x06 4 (s .endpoint))
     (upFields block (s .«has_fcs») sdu)
 
 -- How many bytes each takes, with n bytes of a block and so many bits of a PDU or an SDU.

@@ -8,7 +8,7 @@ ghost use Rattle.bits.specs.Bits.{bits, part};
 ghost use Rattle.llc_pdus.specs.Headers.{bit, header};
 ghost use Rattle.llc_pdus.specs.declared.Pdu.{Pdu};
 ghost use Rattle.llc_rule.specs.Calls.{toBytes};
-ghost use Rattle.llc_rule.specs.Records.{field, number, packed, pack, counted, countedIfAny, masked};
+ghost use Rattle.llc_rule.specs.Records.{field, numberField, packed, pack, counted, countedIfAny, masked};
 ghost use Rattle.llc_records.specs.Records.{maskIf};
 use bit_fields::copy_bytes;
 use bit_fields::get;
@@ -42,7 +42,7 @@ fn put_bytes(out: &mut [u8], at: usize, n: usize, v: u32) -> usize
 pub(crate) fn put_number(out: &mut [u8], at: usize, tag: u8, n: usize, v: u32) -> usize
     requires { ⌜ n ≤ 4 ⌝ }
     requires { ⌜ at + 3 + n ≤ length (now out) ⌝ }
-    ensures { λ r. ⌜ Wrote (now (out .entry)) at (number tag n v) (now (out .exit)) r ⌝ }
+    ensures { λ r. ⌜ Wrote (now (out .entry)) at (numberField tag n v) (now (out .exit)) r ⌝ }
 {
     let p = put_byte(out, at, tag);
     let p = put_bytes(out, p, 2, n as u32);
@@ -164,7 +164,7 @@ pub(crate) fn put_mask(out: &mut [u8], at: usize, has: bool, mask: u8) -> usize
 // A flag as a field.
 pub(crate) fn put_flag(out: &mut [u8], at: usize, tag: u8, b: bool) -> usize
     requires { ⌜ at + 4 ≤ length (now out) ⌝ }
-    ensures { λ r. ⌜ Wrote (now (out .entry)) at (number tag 1 (bit b)) (now (out .exit)) r ⌝ }
+    ensures { λ r. ⌜ Wrote (now (out .entry)) at (numberField tag 1 (bit b)) (now (out .exit)) r ⌝ }
 {
     if b {
         return put_number(out, at, tag, 1, 1);

@@ -17,7 +17,7 @@ use Rattle.llc_pdus.specs.declared.Pdu.the-variants.{BlUdata, BlAck}
 use Rattle.llc_rule.specs.Calls.{Request}
 use Rattle.llc_rule.specs.Ranges.{steals, wantsFcs}
 use Rattle.llc_rule.specs.Step.{onAcknowledgedPath}
-use Rattle.llc_state.specs.Ranges.{inRange}
+use Rattle.llc_state.specs.Ranges.{stateInRange}
 use Rattle.llc_state.specs.States.{noAck}
 use Rattle.llc_state.specs.Receipts.{placeOf}
 use Rattle.llc_state.specs.declared.ScheduledOutAck.{ScheduledOutAck}
@@ -100,7 +100,7 @@ module _ (r : Request) (s : State) (b : List ℕ) where
   data-6 t = rw t
 
   -- On the acknowledged path.
-  module _ (t : taken ≡ false) (path : onAcknowledgedPath r ≡ true) (long : Lengths s) (ok : inRange s ≡ true) where
+  module _ (t : taken ≡ false) (path : onAcknowledgedPath r ≡ true) (long : Lengths s) (ok : stateInRange s ≡ true) where
     asks-7 : rowFor r s ≡ ltb (position (rowOf (r .ssi)) (rowsOf s)) 256
     asks-7 =
         let few : s .«n_rows» ≤ 256 = range-tells s ok .head .rows in
@@ -151,7 +151,7 @@ module _ (r : Request) (s : State) (b : List ℕ) where
 
         pub data-stolen :
             Lengths s
-            → inRange s ≡ true
+            → stateInRange s ≡ true
             → ack < s .«n_acks»
             → onData r s b
             ≡ accepted

@@ -23,7 +23,7 @@ use Rattle.llc_rule.specs.Ranges.{isType, isReceipt, wantsFcs}
 use Rattle.llc_rule.specs.Records.{allBytes}
 use Rattle.llc_calls.specs.Ranges.{requestRange}
 use Rattle.llc_calls.specs.declared.RequestCall.{RequestCall}
-use Rattle.llc_state.specs.Ranges.{inRange}
+use Rattle.llc_state.specs.Ranges.{stateInRange}
 use Rattle.llc_state.specs.States.{noAck, noRow}
 use Rattle.llc_state.specs.Receipts.{withPlaces, pendingPlace, takeReceipt}
 use Rattle.llc_state.specs.View.{placeBit}
@@ -121,7 +121,7 @@ pub put-acknowledged :
     (r : Request) (s : State) (before after : List ℕ) (row : ℕ)
     {carrier ack : ℕ} {ns : Bool} {pdu : Pdu} {place len : ℕ} {e : Entry} {s₁ s₂ s₃ s₄ : State} {x : Answer}
     → Lengths s
-    → inRange s ≡ true
+    → stateInRange s ≡ true
     → row ≡ position (rowOf (r .ssi)) (rowsOf s)
     → carrier ≡ carrierFor r s
     → ack ≡ position (ackOn (r .ssi) carrier) (acksOf s)

@@ -11,7 +11,7 @@ ghost use Rattle.llc_pdus.specs.declared.Pdu.the-variants.{BlAdata, BlData};
 ghost use Rattle.llc_rule.specs.Limits.{storeBytes};
 ghost use Rattle.llc_calls.specs.Decoded.{requestOf, RequestInside};
 ghost use Rattle.llc_calls.specs.Ranges.{requestRange};
-ghost use Rattle.llc_state.specs.Ranges.{inRange};
+ghost use Rattle.llc_state.specs.Ranges.{stateInRange};
 ghost use Rattle.llc_state.specs.States.{noAck, noRow};
 ghost use Rattle.llc_steps.specs.Answers.{WithAnyOut};
 ghost use Rattle.llc_steps.specs.States.{acksOf, rowsOf};
@@ -77,7 +77,7 @@ fn put_acknowledged(
     bytes: &[u8],
     row: usize,
 ) -> Answer
-    requires { ⌜ inRange state ≡ true ⌝ }
+    requires { ⌜ stateInRange state ≡ true ⌝ }
     requires { ⌜ length (now store) ≡ storeBytes ⌝ }
     requires { ⌜ requestRange q ≡ true ⌝ }
     requires { ⌜ RequestInside q (now bytes) ⌝ }
@@ -118,7 +118,7 @@ fn put_unacknowledged(
     pdu: Pdu,
     ack: usize,
 ) -> Answer
-    requires { ⌜ inRange state ≡ true ⌝ }
+    requires { ⌜ stateInRange state ≡ true ⌝ }
     requires { ⌜ length (now store) ≡ storeBytes ⌝ }
     requires { ⌜ requestRange q ≡ true ⌝ }
     requires { ⌜ RequestInside q (now bytes) ⌝ }
@@ -137,7 +137,7 @@ fn put_unacknowledged(
 
 /// A data request.
 pub fn rx_tla_tldata_req_bl(state: State, store: &mut [u8], q: RequestCall, bytes: &[u8]) -> Answer
-    requires { ⌜ inRange state ≡ true ⌝ }
+    requires { ⌜ stateInRange state ≡ true ⌝ }
     requires { ⌜ length (now store) ≡ storeBytes ⌝ }
     requires { ⌜ requestRange q ≡ true ⌝ }
     requires { ⌜ RequestInside q (now bytes) ⌝ }
@@ -192,7 +192,7 @@ pub fn rx_tla_tlunitdata_req_bl(
     q: RequestCall,
     bytes: &[u8],
 ) -> Answer
-    requires { ⌜ inRange state ≡ true ⌝ }
+    requires { ⌜ stateInRange state ≡ true ⌝ }
     requires { ⌜ length (now store) ≡ storeBytes ⌝ }
     requires { ⌜ requestRange q ≡ true ⌝ }
     requires { ⌜ RequestInside q (now bytes) ⌝ }

@@ -9,7 +9,7 @@ use Rattle.questions.specs.Outcome.{Outcome, accepted, refused}
 use Rattle.llc_rule.specs.Calls.{Call, start, tickStart, tickEnd, request, frame, byReceipt, report, release, Request, parsed}
 use Rattle.llc_rule.specs.Runs.{Exchange}
 use Rattle.llc_rule.specs.Past.{Whom, everybody, address, holderOf, Holding, empties, takes, frees, stays, aboutRead, aboutCall, about, Holders, heldAfter, doneTo, holders}
-use Rattle.llc_rule.specs.Sendings.{taker, requestOf}
+use Rattle.llc_rule.specs.Sendings.{taker, requestSpelled}
 
 -- What an accepted call is about.
 pub about-accepted : (bytes : List ℕ) (c : Call) → parsed bytes ≡ accepted c → about bytes ≡ aboutCall c
@@ -26,7 +26,7 @@ takes-for stays r t = absurd (Option·none-ne-some r t)
 pub takes-own :
     (e : Exchange) (h : Holders) (r : Request)
     → e .number ≡ 0
-    → requestOf (e .call) ≡ some r
+    → requestSpelled (e .call) ≡ some r
     → holders e h (r .receipt) ≡ some (r .ssi)
 unfolding holders doneTo
 takes-own e h r n t =

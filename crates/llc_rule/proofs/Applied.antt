@@ -16,7 +16,7 @@ use Rattle.llc_rule.specs.Rule.{atFirst, dueOn, requested, afterData, af
 use Rattle.llc_rule.specs.Runs.{Exchange, exchange, left, run, after}
 use Rattle.llc_rule.specs.Past.{about, belongsTo, doneTo, holders, whose, inPast, nothingYet, andThen, history}
 use Rattle.llc_rule.specs.Seen.{ruleRun, ruled, SeesTheSame}
-use Rattle.llc_rule.specs.Sendings.{requestOf, handed, sendings, AtMostFour}
+use Rattle.llc_rule.specs.Sendings.{requestSpelled, handed, sendings, AtMostFour}
 use Rattle.llc_rule.specs.Claim.{whoseAfter}
 use Rattle.llc_rule.proofs.Swap.{swap}
 use Rattle.llc_rule.proofs.Sendings.{four-run}
@@ -78,7 +78,7 @@ secondRequest =
       sdu = 1 ∷ 0 ∷ 1 ∷ 0 ∷ 0 ∷ 1 ∷ 0 ∷ 1 ∷ 1 ∷ [];
     }
 
-pub is-request : requestOf askSecond ≡ some secondRequest
+pub is-request : requestSpelled askSecond ≡ some secondRequest
 unfolding about toBytes exchanges
 is-request = refl
 
@@ -142,7 +142,7 @@ unfoldable pub fourth : Exchange
 unfolding answers
 fourth = getD answers 3 nothing
 
-pub fourth-asks : requestOf (fourth .call) ≡ some secondRequest
+pub fourth-asks : requestSpelled (fourth .call) ≡ some secondRequest
 unfolding fourth about
 fourth-asks = refl
 

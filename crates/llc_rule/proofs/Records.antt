@@ -19,7 +19,7 @@ use Rattle.llc_pdus.specs.Headers.{bit}
 use Rattle.llc_pdus.specs.Writes.{longestSent}
 use Rattle.llc_rule.specs.Limits.{longestFrame}
 use Rattle.llc_rule.specs.Calls.{fromBytes, toBytes}
-use Rattle.llc_rule.specs.Records.{Record, acknowledged, reply, unacknowledged, dataUp, unitdataUp, Sent, Reply, Indication, field, number, packed, pack, counted, masked, countedIfAny, sentBytes, replyBytes, indicationBytes, bytes, allBytes, kind}
+use Rattle.llc_rule.specs.Records.{Record, acknowledged, reply, unacknowledged, dataUp, unitdataUp, Sent, Reply, Indication, field, numberField, packed, pack, counted, masked, countedIfAny, sentBytes, replyBytes, indicationBytes, bytes, allBytes, kind}
 use Rattle.llc_rule.specs.Sizes.{Fits, FitsMask, FitsBits, FitsSent, FitsReply, FitsIndication, SmallSent}
 
 -- How records begin -------------------------------------------------------------------------------------------------------
@@ -122,7 +122,7 @@ peel p q r s x y n e =
 pub length-field : (tag : ℕ) (v : List ℕ) → length (field tag v) ≡ 3 + length v
 length-field tag v = rw (length-append (toBytes 2 (length v)) v, length-toBytes 2 (length v)) (omega arith)
 
-pub length-number : (tag n v : ℕ) → length (number tag n v) ≡ 3 + n
+pub length-number : (tag n v : ℕ) → length (numberField tag n v) ≡ 3 + n
 length-number tag n v = rw (length-field tag (toBytes n v), length-toBytes n v)
 
 -- The tag and the length of a field have three bytes.
@@ -160,7 +160,7 @@ peel-number :
     (tag n v w : ℕ) (r s x y : List ℕ)
     → v < 256 ^ n
     → w < 256 ^ n
-    → (number tag n v ++ r) ++ x ≡ (number tag n w ++ s) ++ y
+    → (numberField tag n v ++ r) ++ x ≡ (numberField tag n w ++ s) ++ y
     → Cut (v ≡ w) r s x y
 peel-number tag n v w r s x y hv hw e =
     let cut = peel-even tag (toBytes n v) (toBytes n w) r s x y (length-toBytes n v ∙ sym (length-toBytes n w)) e in
@@ -178,7 +178,7 @@ bit-determines true true e = refl
 
 peel-flag :
     (tag : ℕ) (b c : Bool) (r s x y : List ℕ)
-    → (number tag 1 (bit b) ++ r) ++ x ≡ (number tag 1 (bit c) ++ s) ++ y
+    → (numberField tag 1 (bit b) ++ r) ++ x ≡ (numberField tag 1 (bit c) ++ s) ++ y
     → Cut (b ≡ c) r s x y
 peel-flag tag b c r s x y e =
     let cut = peel-number tag 1 (bit b) (bit c) r s x y (bit-below b) (bit-below c) e in

@@ -24,7 +24,7 @@ use Rattle.llc_rule.specs.Step.{dueFor, receiptFree, dataPdu, withAcknow
 use Rattle.llc_rule.specs.Runs.{left, given, Exchange, exchange, run}
 use Rattle.llc_rule.specs.Past.{About, aboutCall, Holders, nobody, holding, heldAfter, doneTo, holders}
 use Rattle.llc_rule.specs.Sound.{Owned, Sound, isNobody}
-use Rattle.llc_rule.specs.Sendings.{taker, requestOf, ends, handed, sendings, AtMostFour, EachAtMostFour}
+use Rattle.llc_rule.specs.Sendings.{taker, requestSpelled, ends, handed, sendings, AtMostFour, EachAtMostFour}
 use Rattle.llc_rule.proofs.Paths.{Acknowledged, Unacknowledged, Paths, step-law}
 use Rattle.llc_rule.proofs.About.{about-accepted, takes-own}
 use Rattle.llc_rule.proofs.Held.{all-found}
@@ -465,7 +465,7 @@ module _ (h : Holders) (l : Link) (sound : Sound h l) (r : Request) where
         released = λ i a t. absurd (Option·none-ne-some r t);
       }
 
-  begun-step : (c : List ℕ) → number (step l c) ≡ 0 → requestOf c ≡ some r → Begun r (left l (step l c))
+  begun-step : (c : List ℕ) → number (step l c) ≡ 0 → requestSpelled c ≡ some r → Begun r (left l (step l c))
   begun-step c e t =
       step-law l _ begun-paths c (λ o. number o ≡ 0 → Begun r (left l o))
       (λ n k z. absurd (omega (arith, z, k .low)))
@@ -477,7 +477,7 @@ pub four-after :
     (h : Holders) (l : Link) (c : List ℕ) (r : Request) (later : List (List ℕ))
     → Sound h l
     → number (step l c) ≡ 0
-    → requestOf c ≡ some r
+    → requestSpelled c ≡ some r
     → AtMostFour r (sendings (r .receipt) (run (left l (step l c)) later))
 four-after h l c r later sound e t =
     let b = begun-step h l sound r c e t in
@@ -498,7 +498,7 @@ four-after h l c r later sound e t =
 abbrev pub FourEach : List Exchange → Type 0
 FourEach [] = Unit {0}
 FourEach (e ∷ es) =
-    ((r : Request) → e .number ≡ 0 → requestOf (e .call) ≡ some r → AtMostFour r (sendings (r .receipt) es)) × FourEach es
+    ((r : Request) → e .number ≡ 0 → requestSpelled (e .call) ≡ some r → AtMostFour r (sendings (r .receipt) es)) × FourEach es
 
 four-behind : (before es : List Exchange) → FourEach (before ++ es) → FourEach es
 four-behind [] es f = f

@@ -23,7 +23,7 @@ use Rattle.llc_rule.specs.Runs.{Exchange, exchange, left, given, run}
 use Rattle.llc_rule.specs.Past.{Whom, Holding, empties, takes, frees, stays, about, Holders, nobody, doneTo, holders, whoseOf, whose, concerns, leftOut, inPast, past, isTickEnd, Sight, sight}
 use Rattle.llc_rule.specs.Seen.{ruleRun, ruleSights, calls, ruled, unhindered}
 use Rattle.llc_rule.specs.Sound.{Sound}
-use Rattle.llc_rule.specs.Sendings.{requestOf, ends, handed, sendings, AtMostFour, EachAtMostFour}
+use Rattle.llc_rule.specs.Sendings.{requestSpelled, ends, handed, sendings, AtMostFour, EachAtMostFour}
 use Rattle.llc_rule.proofs.About.{Agree, agree, takes-for, takes-own}
 use Rattle.llc_rule.proofs.Histories.{pastFrom, past-from}
 use Rattle.llc_rule.proofs.SoundCalls.{sound-new, sound-step}
@@ -106,7 +106,7 @@ past-takes :
     (h : Holders) (a : ℕ) (e : Exchange) (r : Request)
     → inPast a h e ≡ true
     → e .number ≡ 0
-    → requestOf (e .call) ≡ some r
+    → requestSpelled (e .call) ≡ some r
     → holders e h (r .receipt) ≡ some a
 unfolding whose
 past-takes h a e r p n t =

@@ -10,7 +10,7 @@ use Rattle.lists.specs.Lists.{All}
 use Rattle.llc_rule.specs.Messages.{Message, Place}
 use Rattle.llc_rule.specs.Runs.{Exchange}
 use Rattle.llc_rule.specs.Past.{Whose, belongsTo, whose, holdersAfter}
-use Rattle.llc_rule.specs.Seen.{calls, unhindered, ruled, keptByRule, SeesItsOwnPast, SeesTheSame, underWay, MarkedWhereTransmitted}
+use Rattle.llc_rule.specs.Seen.{calls, unhindered, ruled, keptByRule, SeesItsOwnPast, SeesTheSame, countUnderWay, MarkedWhereTransmitted}
 use Rattle.llc_rule.specs.Sendings.{EachAtMostFour}
 use Rattle.llc_rule.specs.Sound.{ofAddress}
 
@@ -45,8 +45,8 @@ pub record Claims
       (receipts (before ++ (d ∷ c ∷ later)))
   -- "By that rule an address has at most one acknowledged message under way": by the rule on its past, and of those that are held,
   -- whatever was refused.
-  pub oneUnderWay : (cs : List C) → unhindered (run cs) ≡ true → (a : ℕ) → underWay (keptByRule a (run cs) .acknowledged) ≤ 1
-  pub oneAmongHeld : (cs : List C) (a : ℕ) → underWay (ofAddress a (messages cs)) ≤ 1
+  pub oneUnderWay : (cs : List C) → unhindered (run cs) ≡ true → (a : ℕ) → countUnderWay (keptByRule a (run cs) .acknowledged) ≤ 1
+  pub oneAmongHeld : (cs : List C) (a : ℕ) → countUnderWay (ofAddress a (messages cs)) ≤ 1
   -- "14. If N(R) would finish a message, is its receipt Transmitted?" and "Transmitted becomes Lost": of an acknowledged message
   -- that is held the two marks are allowed exactly there, and by the rule on a past.
   pub whereTransmitted : (cs : List C) → All (MarkedWhereTransmitted (receipts cs)) (messages cs)

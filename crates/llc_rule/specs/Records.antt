@@ -71,8 +71,8 @@ abbrev pub field : ℕ → List ℕ → List ℕ
 field tag v = tag ∷ toBytes 2 (length v) ++ v
 
 -- A number of n bytes as a field.
-abbrev pub number : ℕ → ℕ → ℕ → List ℕ
-number tag n v = field tag (toBytes n v)
+abbrev pub numberField : ℕ → ℕ → ℕ → List ℕ
+numberField tag n v = field tag (toBytes n v)
 
 -- n bytes of bits, the first bit of a byte its highest.
 unfoldable pub packed : ℕ → List ℕ → List ℕ
@@ -90,7 +90,7 @@ counted l = field 0x0C (toBytes 2 (length l) ++ pack l)
 -- "09 mask if present", and "0C if an SDU is left".
 unfoldable pub masked : Option ℕ → List ℕ
 masked none = []
-masked (some m) = number 0x09 1 m
+masked (some m) = numberField 0x09 1 m
 
 unfoldable pub countedIfAny : List ℕ → List ℕ
 countedIfAny [] = []
@@ -101,33 +101,33 @@ countedIfAny (b ∷ l) = counted (b ∷ l)
 -- zeros for endpoint and handle; kinds 1 and 3 lack 0D."
 unfoldable pub sentBytes : ℕ → Sent → List ℕ
 sentBytes kind s =
-    number 0x01 1 kind
-    ++ (number 0x02 3 (s .ssi)
-    ++ (number 0x03 1 (s .type)
-    ++ (number 0x04 2 (s .carrier)
-    ++ (number 0x05 4 (s .link)
-    ++ (number 0x06 4 (s .endpoint)
-    ++ (number 0x07 4 (s .handle)
-    ++ (number 0x08 1 (bit (s .steal))
-    ++ (masked (s .mask) ++ (number 0x0A 1 (s .receipt) ++ (field 0x0B (s .block) ++ counted (s .pdu)))))))))))
+    numberField 0x01 1 kind
+    ++ (numberField 0x02 3 (s .ssi)
+    ++ (numberField 0x03 1 (s .type)
+    ++ (numberField 0x04 2 (s .carrier)
+    ++ (numberField 0x05 4 (s .link)
+    ++ (numberField 0x06 4 (s .endpoint)
+    ++ (numberField 0x07 4 (s .handle)
+    ++ (numberField 0x08 1 (bit (s .steal))
+    ++ (masked (s .mask) ++ (numberField 0x0A 1 (s .receipt) ++ (field 0x0B (s .block) ++ counted (s .pdu)))))))))))
 
 unfoldable pub replyBytes : Reply → List ℕ
 replyBytes r =
-    number 0x01 1 2
-    ++ (number 0x02 3 (r .ssi)
-    ++ (number 0x03 1 (r .type)
-    ++ (number 0x04 2 (r .carrier)
-    ++ (number 0x05 4 (r .link)
-    ++ (number 0x06 4 0 ++ (number 0x07 4 0 ++ (number 0x08 1 (bit (r .steal)) ++ (masked (r .mask) ++ counted (r .pdu)))))))))
+    numberField 0x01 1 2
+    ++ (numberField 0x02 3 (r .ssi)
+    ++ (numberField 0x03 1 (r .type)
+    ++ (numberField 0x04 2 (r .carrier)
+    ++ (numberField 0x05 4 (r .link)
+    ++ (numberField 0x06 4 0 ++ (numberField 0x07 4 0 ++ (numberField 0x08 1 (bit (r .steal)) ++ (masked (r .mask) ++ counted (r .pdu)))))))))
 
 -- "Up records hold 01, 02, 03, 05, 06, 0B, 0D, and 0C if an SDU is left."
 unfoldable pub indicationBytes : ℕ → Indication → List ℕ
 indicationBytes kind i =
-    number 0x01 1 kind
-    ++ (number 0x02 3 (i .ssi)
-    ++ (number 0x03 1 (i .type)
-    ++ (number 0x05 4 (i .link)
-    ++ (number 0x06 4 (i .endpoint) ++ (field 0x0B (i .block) ++ (number 0x0D 1 (bit (i .fcs)) ++ countedIfAny (i .sdu)))))))
+    numberField 0x01 1 kind
+    ++ (numberField 0x02 3 (i .ssi)
+    ++ (numberField 0x03 1 (i .type)
+    ++ (numberField 0x05 4 (i .link)
+    ++ (numberField 0x06 4 (i .endpoint) ++ (field 0x0B (i .block) ++ (numberField 0x0D 1 (bit (i .fcs)) ++ countedIfAny (i .sdu)))))))
 
 -- The bytes of a record, and of several.
 unfoldable pub bytes : Record → List ℕ

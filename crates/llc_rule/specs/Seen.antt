@@ -59,8 +59,8 @@ pub record SeesTheSame (a : ℕ) (es : List Exchange) (ps : List Place) (fs : Li
   pub sameReceipts : heldBy a (holdersAfter es) 0 ps ≡ heldBy a (holdersAfter fs) 0 qs
 
 -- How many of some messages are under way.
-abbrev pub underWay : List Message → ℕ
-underWay ms = length (keep (λ (m : Message). m .submitted) ms)
+abbrev pub countUnderWay : List Message → ℕ
+countUnderWay ms = length (keep (λ (m : Message). m .submitted) ms)
 
 -- "14. If N(R) would finish a message, is its receipt Transmitted?" and "Transmitted becomes Lost": the two marks are allowed
 -- exactly there.

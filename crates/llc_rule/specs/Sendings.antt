@@ -22,8 +22,8 @@ taker (frees i) = none
 taker stays = none
 
 -- The request that a call is.
-abbrev pub requestOf : List ℕ → Option Request
-requestOf bytes = taker (about bytes .toHolding)
+abbrev pub requestSpelled : List ℕ → Option Request
+requestSpelled bytes = taker (about bytes .toHolding)
 
 -- Does this end the holding of receipt i?
 abbrev pub ends : ℕ → Holding → Bool
@@ -60,5 +60,5 @@ pub record EachAtMostFour (es : List Exchange) : Type 0 where
       (before : List Exchange) (e : Exchange) (later : List Exchange) (r : Request)
       → es ≡ before ++ (e ∷ later)
       → e .number ≡ 0
-      → requestOf (e .call) ≡ some r
+      → requestSpelled (e .call) ≡ some r
       → AtMostFour r (sendings (r .receipt) later)

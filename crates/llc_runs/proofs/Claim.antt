@@ -17,17 +17,17 @@ use Rattle.llc_rule.specs.Rule.{atFirst}
 use Rattle.llc_rule.specs.Runs as Rule
 use Rattle.llc_rule.specs.Runs.{Exchange}
 use Rattle.llc_rule.specs.Past.{belongsTo, whose, History, historyOf, holdersAfter, past, sight, heldBy, takenFrom}
-use Rattle.llc_rule.specs.Seen.{ruleRun, ruleSights, ruleAfter, calls, unhindered, SeesItsOwnPast, SeesTheSame, underWay, MarkedWhereTransmitted}
+use Rattle.llc_rule.specs.Seen.{ruleRun, ruleSights, ruleAfter, calls, unhindered, SeesItsOwnPast, SeesTheSame, countUnderWay, MarkedWhereTransmitted}
 use Rattle.llc_rule.specs.Claim.{whoseAfter, Claims}
 use Rattle.llc_rule.specs.Sound.{ofAddress}
-use Rattle.llc_rule.specs.Sendings.{requestOf, sendings, AtMostFour, EachAtMostFour}
+use Rattle.llc_rule.specs.Sendings.{requestSpelled, sendings, AtMostFour, EachAtMostFour}
 use Rattle.llc_rule.proofs.Paths.{not-one}
 use Rattle.llc_rule.proofs.Claim.{claims}
-use Rattle.llc_state.specs.Ranges.{inRange}
+use Rattle.llc_state.specs.Ranges.{stateInRange}
 use Rattle.llc_state.proofs.View.{new-in-range}
 use Rattle.llc.specs.Entry.{lentRight}
 use Rattle.llc_runs.specs.Runs.{Lent, Station, begin, left, exchange, run, after}
-use Rattle.llc_runs.specs.Heard.{fits, fitting, putTo}
+use Rattle.llc_runs.specs.Heard.{lentEnough, fitting, putTo}
 use Rattle.llc_runs.specs.Outputs.{ReadOff}
 use Rattle.llc_runs.specs.Claim.{linkAt, receiptsAfter, messagesAfter, InRange, Claim}
 use Rattle.llc_runs.proofs.Ones.{history-heard, unhindered-heard, four-heard}
@@ -44,7 +44,7 @@ one-is s c a =
     (λ e. ap (λ (x : Exchange). eqb (x .number) 1) (a e .asked) ∙ not-one (linkAt s) (c .call) ∙ ap not (sym e))
     (λ e. ap (λ (k : ℕ). eqb k 1) (asks-not s c e .one) ∙ ap not (sym e))
 
-begin-in-range : (store : List ℕ) → inRange (begin store .state) ≡ true
+begin-in-range : (store : List ℕ) → stateInRange (begin store .state) ≡ true
 unfolding begin
 begin-in-range store = new-in-range
 
@@ -66,7 +66,7 @@ in-range store cs =
     let w = begin-wrong store wrong in
     let n = stuck (begin store) cs w .same in
     record {
-      state = ap (λ (t : Station). inRange (t .state)) n ∙ begin-in-range store;
+      state = ap (λ (t : Station). stateInRange (t .state)) n ∙ begin-in-range store;
       number =
           λ c.
           one-is (after (begin store) cs) c
@@ -163,10 +163,10 @@ sees-as-put a store cs ds e =
     sees-same a store cs ds (subst (AlikeOnLink a (putTo store cs)) e (sees-itself a (putTo store cs)))
 
 -- Two calls of which one is not put to the link, in either order.
-one-put : (c d : Lent) (later : List Lent) → fits c ≡ false → fitting (c ∷ d ∷ later) ≡ fitting (d ∷ c ∷ later)
+one-put : (c d : Lent) (later : List Lent) → lentEnough c ≡ false → fitting (c ∷ d ∷ later) ≡ fitting (d ∷ c ∷ later)
 one-put c d later f =
     fitting-no c (d ∷ later) f
-    ∙ by-test (fits d)
+    ∙ by-test (lentEnough d)
     (λ g.
     fitting-yes d later g
     ∙ ap (λ (x : List (List ℕ)). d .call ∷ x) (sym (fitting-no c later f))
@@ -175,8 +175,8 @@ one-put c d later f =
 
 pub two-put :
     (c d : Lent) (later : List Lent)
-    → fits c ≡ true
-    → fits d ≡ true
+    → lentEnough c ≡ true
+    → lentEnough d ≡ true
     → fitting (c ∷ d ∷ later) ≡ c .call ∷ d .call ∷ fitting later
 two-put c d later f g = fitting-yes c (d ∷ later) f ∙ ap (λ (x : List (List ℕ)). c .call ∷ x) (fitting-yes d later g)
 
@@ -217,9 +217,9 @@ swapped store before c d later s t c-is d-is differ one other a =
     let ds : List Lent = before ++ (d ∷ c ∷ later) in
     by-test (eqb (length store) storeBytes)
     (λ right.
-    by-test (fits c)
+    by-test (lentEnough c)
     (λ f.
-    by-test (fits d)
+    by-test (lentEnough d)
     (λ g.
     let put : List (List ℕ) = putTo store before in
     let p = put-right store before (c ∷ d ∷ later) (c .call ∷ d .call ∷ fitting later) right (two-put c d later f g) in
@@ -255,10 +255,10 @@ runs store =
       swap = swapped store;
       oneUnderWay =
           λ cs u a.
-          by-history store cs (λ (k : History). underWay (ruleAfter atFirst (calls (k .past a)) .acknowledged) ≤ 1)
+          by-history store cs (λ (k : History). countUnderWay (ruleAfter atFirst (calls (k .past a)) .acknowledged) ≤ 1)
           (claims .oneUnderWay (putTo store cs) (on-link store cs u) a);
       oneAmongHeld =
-          λ cs a. by-link store cs (λ (l : Link). underWay (ofAddress a (l .acknowledged)) ≤ 1) (claims .oneAmongHeld (putTo store cs) a);
+          λ cs a. by-link store cs (λ (l : Link). countUnderWay (ofAddress a (l .acknowledged)) ≤ 1) (claims .oneAmongHeld (putTo store cs) a);
       whereTransmitted =
           λ cs.
           by-link store cs (λ (l : Link). All (MarkedWhereTransmitted (l .receipts)) (l .acknowledged))
@@ -284,7 +284,7 @@ runs store =
 pub four-later :
     (store : List ℕ) (before : List Lent) (c : Lent) (r : Request) (later : List Lent)
     → exchange (after (begin store) before) c .number ≡ 0
-    → requestOf (c .call) ≡ some r
+    → requestSpelled (c .call) ≡ some r
     → AtMostFour r (sendings (r .receipt) (run (left (after (begin store) before) c) later))
 unfolding exchange
 four-later store before c r later n q =

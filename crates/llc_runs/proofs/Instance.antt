@@ -20,7 +20,7 @@ use Rattle.llc_rule.proofs.Instance.{askFirst, askSecond, openingCalls, laterCa
 use Rattle.llc.specs.Entry.{lentRight}
 use Rattle.llc_runs.specs.Runs.{Lent, begin, exchange, run, after}
 use Rattle.llc_runs.specs.Claim.{receiptsAfter}
-use Rattle.llc_runs.specs.Heard.{heard, fits, fitting, putTo}
+use Rattle.llc_runs.specs.Heard.{heardOf, lentEnough, fitting, putTo}
 use Rattle.llc_runs.proofs.Runs.{fitting-append, fitting-yes, fitting-no}
 use Rattle.llc_runs.proofs.Claim.{unhindered-is, put-right, two-put, claim}
 
@@ -117,11 +117,11 @@ abbrev pub turnedLents : List Lent
 turnedLents = openingLents ++ (lentSecond ∷ lentFirst ∷ laterLents)
 
 -- What of it is put to the link.
-pub first-fits : fits lentFirst ≡ true
+pub first-fits : lentEnough lentFirst ≡ true
 unfolding lentFirst
 first-fits = wide-fits
 
-pub second-fits : fits lentSecond ≡ true
+pub second-fits : lentEnough lentSecond ≡ true
 unfolding lentSecond
 second-fits = wide-fits
 
@@ -169,13 +169,13 @@ unhindered-turned-lents =
     ∙ unhindered-turned
 
 -- Its numbers and records are those of the instance, all five kinds and four refusals; and one call got number 1.
-heard-lents : heard (run (begin zeroStore) lents) ≡ Rule.run new instanceCalls
+heard-lents : heardOf (run (begin zeroStore) lents) ≡ Rule.run new instanceCalls
 heard-lents = claim .asStep zeroStore lents .heard ∙ ap (Rule.run new) lents-put
 
-pub kinds-lents : all (hasKind (heard (run (begin zeroStore) lents))) (1 ∷ 2 ∷ 3 ∷ 4 ∷ 5 ∷ []) ≡ true
+pub kinds-lents : all (hasKind (heardOf (run (begin zeroStore) lents))) (1 ∷ 2 ∷ 3 ∷ 4 ∷ 5 ∷ []) ≡ true
 kinds-lents = ap (λ (es : List Exchange). all (hasKind es) (1 ∷ 2 ∷ 3 ∷ 4 ∷ 5 ∷ [])) heard-lents ∙ instance-kinds
 
-pub numbers-lents : all (hasNumber (heard (run (begin zeroStore) lents))) (0 ∷ 3 ∷ 4 ∷ 15 ∷ 16 ∷ []) ≡ true
+pub numbers-lents : all (hasNumber (heardOf (run (begin zeroStore) lents))) (0 ∷ 3 ∷ 4 ∷ 15 ∷ 16 ∷ []) ≡ true
 numbers-lents = ap (λ (es : List Exchange). all (hasNumber es) (0 ∷ 3 ∷ 4 ∷ 15 ∷ 16 ∷ [])) heard-lents ∙ instance-numbers
 
 pub one-lent : eqb (exchange (after (begin zeroStore) started) tooShort .number) 1 ≡ true

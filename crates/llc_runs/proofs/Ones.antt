@@ -13,7 +13,7 @@ use Rattle.llc_rule.specs.Runs.{Exchange}
 use Rattle.llc_rule.specs.Past.{stays, about, Holders, heldAfter, doneTo, holders, whose, concerns, leftOut, inPast, History, andThen, history}
 use Rattle.llc_rule.specs.Seen.{hindrances, unhindered}
 use Rattle.llc_rule.specs.Sendings.{ends, handed, sendings, AtMostFour, EachAtMostFour}
-use Rattle.llc_runs.specs.Heard.{wasHeard, heard}
+use Rattle.llc_runs.specs.Heard.{wasHeard, heardOf}
 
 -- A call that got number 1 gave no record.
 abbrev pub Silent : Exchange → Type 0
@@ -26,13 +26,13 @@ read-heard :
     → ((s : S) (e : Exchange) (es : List Exchange) → e .number ≡ 1 → e .records ≡ [] → f s (e ∷ es) ≡ f s es)
     → (s : S) (es : List Exchange)
     → All Silent es
-    → f s es ≡ f s (heard es)
+    → f s es ≡ f s (heardOf es)
 unfolding keep
 read-heard f same over s [] q = refl
 read-heard f same over s (e ∷ es) q =
     by-test (wasHeard e)
     (λ w.
-    same s e es (heard es) (λ t. read-heard f same over t es (q .1)) ∙ ap (f s) (sym (keep-yes wasHeard e es w)))
+    same s e es (heardOf es) (λ t. read-heard f same over t es (q .1)) ∙ ap (f s) (sym (keep-yes wasHeard e es w)))
     (λ w.
     let n = eqb-true (e .number) 1 (not-false (eqb (e .number) 1) w) in
     over s e es n (q .0 n) ∙ read-heard f same over s es (q .1) ∙ ap (f s) (sym (keep-no wasHeard e es w)))
@@ -66,7 +66,7 @@ history-one k e n g =
     }
 
 -- So it is of the history of a run.
-pub history-heard : (k : History) (es : List Exchange) → All Silent es → history k es ≡ history k (heard es)
+pub history-heard : (k : History) (es : List Exchange) → All Silent es → history k es ≡ history k (heardOf es)
 unfolding history
 history-heard k es q =
     read-heard history
@@ -74,7 +74,7 @@ history-heard k es q =
     (λ s e es n g. ap (λ (x : History). history x es) (history-one s e n g))
     k es q
 
-pub unhindered-heard : (es : List Exchange) → All Silent es → unhindered es ≡ unhindered (heard es)
+pub unhindered-heard : (es : List Exchange) → All Silent es → unhindered es ≡ unhindered (heardOf es)
 unfolding unhindered all any
 unhindered-heard es q =
     let free : ℕ → Bool = λ (k : ℕ). not (among k hindrances) in
@@ -83,7 +83,7 @@ unhindered-heard es q =
     (λ s e es n g. ap (λ (k : ℕ). free k && unhindered es) n)
     tt es q
 
-pub sendings-heard : (i : ℕ) (es : List Exchange) → All Silent es → sendings i es ≡ sendings i (heard es)
+pub sendings-heard : (i : ℕ) (es : List Exchange) → All Silent es → sendings i es ≡ sendings i (heardOf es)
 unfolding sendings handed
 sendings-heard i es q =
     read-heard sendings
@@ -94,7 +94,7 @@ sendings-heard i es q =
     i es q
 
 -- And of what is handed down of each request.
-pub four-heard : (es : List Exchange) → All Silent es → EachAtMostFour (heard es) → EachAtMostFour es
+pub four-heard : (es : List Exchange) → All Silent es → EachAtMostFour (heardOf es) → EachAtMostFour es
 unfolding keep
 four-heard es q f =
     record {
@@ -102,9 +102,9 @@ four-heard es q f =
           λ before e later r is n t.
           let silent = all-back Silent before (e ∷ later) (subst (All Silent) is q) in
           let split =
-          ap heard is
+          ap heardOf is
           ∙ keep-append wasHeard before (e ∷ later)
-          ∙ ap (λ (x : List Exchange). heard before ++ x) (keep-yes wasHeard e later (ap (λ (k : ℕ). not (eqb k 1)) n)) in
+          ∙ ap (λ (x : List Exchange). heardOf before ++ x) (keep-yes wasHeard e later (ap (λ (k : ℕ). not (eqb k 1)) n)) in
           subst (AtMostFour r) (sym (sendings-heard (r .receipt) later (silent .1)))
-          (f .each (heard before) e (heard later) r split n t);
+          (f .each (heardOf before) e (heardOf later) r split n t);
     }

@@ -21,11 +21,11 @@ use Rattle.llc_rule.proofs.Values.{IsByte}
 use Rattle.llc_rule.proofs.FitsRuns.{new-fits, fits-run}
 use Rattle.llc_steps.specs.States.{Kept}
 use Rattle.llc_steps.specs.Answers.{delivered, laidOut}
-use Rattle.llc.specs.Entry.{answered, callOf}
+use Rattle.llc.specs.Entry.{outcomeOf, callOf}
 use Rattle.record_lines.specs.Split.{inLines, recordLines}
 use Rattle.record_lines.proofs.Records.{record-lines}
 use Rattle.llc_runs.specs.Runs.{Lent, Station, begin, left, recordsOf, given, exchange, run, after}
-use Rattle.llc_runs.specs.Heard.{wasHeard, heard, fits, fitting, putTo}
+use Rattle.llc_runs.specs.Heard.{wasHeard, heardOf, lentEnough, fitting, putTo}
 use Rattle.llc_runs.specs.Outputs.{inOutput, ReadOff}
 use Rattle.llc_runs.specs.Claim.{Shown}
 use Rattle.llc_runs.proofs.Ones.{Silent}
@@ -45,7 +45,7 @@ shown-by s c (refused n) = (refl, refl)
 pub shown : (s : Station) (c : Lent) → Shown s c
 unfolding callOf given
 shown s c =
-    let p = shown-by s c (answered (s .state) (s .store) (c .out) (c .call)) in record { out = p .0; len = p .1 }
+    let p = shown-by s c (outcomeOf (s .state) (s .store) (c .out) (c .call)) in record { out = p .0; len = p .1 }
 
 -- What lies in it are the bytes of the records.
 in-output : (s : Station) (c : Lent) → inOutput s c ≡ allBytes (given s c)
@@ -60,13 +60,13 @@ abbrev RecordsFit : Exchange → Type 0
 RecordsFit e = All Fits (e .records)
 
 -- A call that got number 1 gave no record.
-fits-heard : (es : List Exchange) → All Silent es → All RecordsFit (heard es) → All RecordsFit es
+fits-heard : (es : List Exchange) → All Silent es → All RecordsFit (heardOf es) → All RecordsFit es
 unfolding keep
 fits-heard [] q h = tt
 fits-heard (e ∷ es) q h =
     by-test (wasHeard e)
     (λ w.
-    let k : All RecordsFit (e ∷ heard es) = subst (All RecordsFit) (keep-yes wasHeard e es w) h in
+    let k : All RecordsFit (e ∷ heardOf es) = subst (All RecordsFit) (keep-yes wasHeard e es w) h in
     (k .0, fits-heard es (q .1) (k .1)))
     (λ w.
     let none = q .0 (eqb-true (e .number) 1 (not-false (eqb (e .number) 1) w)) in
@@ -77,7 +77,7 @@ fitting-bytes : (cs : List Lent) → All (All IsByte) (fitting cs)
 unfolding keep
 fitting-bytes [] = tt
 fitting-bytes (c ∷ cs) =
-    by-test (fits c)
+    by-test (lentEnough c)
     (λ f. subst (All (All IsByte)) (sym (fitting-yes c cs f)) (c .bytes, fitting-bytes cs))
     (λ f. subst (All (All IsByte)) (sym (fitting-no c cs f)) (fitting-bytes cs))
 

@@ -19,7 +19,7 @@ use Rattle.llc_rule.specs.Step.{step}
 use Rattle.llc_rule.specs.Runs as Rule
 use Rattle.llc_rule.specs.Runs.{Exchange}
 use Rattle.llc_rule.proofs.Paths.{not-one}
-use Rattle.llc_state.specs.Ranges.{inRange}
+use Rattle.llc_state.specs.Ranges.{stateInRange}
 use Rattle.llc_state.proofs.Lengths.{Lengths}
 use Rattle.llc_state.proofs.View.{new-in}
 use Rattle.llc_steps.specs.States.{Kept}
@@ -30,15 +30,15 @@ use Rattle.llc_steps.specs.Sane.{Sane, SaneAfter}
 use Rattle.llc_steps.proofs.Steps.{steps-in}
 use Rattle.llc_steps.proofs.Ready.{ready}
 use Rattle.llc_steps.proofs.Sane.{new-sane, steps-sane}
-use Rattle.llc.specs.Entry.{lentRight, answered, callOf}
+use Rattle.llc.specs.Entry.{lentRight, outcomeOf, callOf}
 use Rattle.llc_runs.specs.Runs.{Lent, Station, station, begin, left, recordsOf, given, exchange, run, after}
-use Rattle.llc_runs.specs.Heard.{wasHeard, heard, fits, fitting}
+use Rattle.llc_runs.specs.Heard.{wasHeard, heardOf, lentEnough, fitting}
 use Rattle.llc_runs.specs.Claim.{linkAt, AsStep}
 use Rattle.llc_runs.proofs.Ones.{Silent}
 
 -- What comes of a call, as its questions are answered.
 abbrev outcome : Station → Lent → Outcome Kept
-outcome s c = answered (s .state) (s .store) (c .out) (c .call)
+outcome s c = outcomeOf (s .state) (s .store) (c .out) (c .call)
 
 abbrev numberBy : Station → Lent → Outcome Kept → ℕ
 numberBy s c o = delivered (s .state) (s .store) (c .out) o .answer .number
@@ -86,9 +86,9 @@ asked-by s c (refused n) e g ok next = record { asked = rw (e, sym g); leaves = 
 answered-right :
     (s : Station) (c : Lent)
     → lentRight (s .store) (c .out) ≡ true
-    → inRange (s .state) ≡ true
+    → stateInRange (s .state) ≡ true
     → outcome s c ≡ steps (s .state) (s .store) (c .call)
-unfolding answered
+unfolding outcomeOf
 answered-right s c e r = rw (e, r)
 
 pub asks : (s : Station) (c : Lent) → Sane (s .state) (s .store) → lentRight (s .store) (c .out) ≡ true → Asked s c
@@ -106,7 +106,7 @@ pub record Unasked (s : Station) (c : Lent) : Type 0 where
   pub same : left s c ≡ s
 
 pub asks-not : (s : Station) (c : Lent) → lentRight (s .store) (c .out) ≡ false → Unasked s c
-unfolding exchange left callOf answered
+unfolding exchange left callOf outcomeOf
 asks-not s c e =
     let no : outcome s c ≡ refused 1 = rw e in
     record { one = ap (numberBy s c) no; same = ap (stationBy s c) no }
@@ -115,35 +115,35 @@ asks-not s c e =
 heard-first :
     (s : Station) (c : Lent) (cs : List Lent)
     → Asked s c
-    → heard (run s (c ∷ cs)) ≡ exchange s c ∷ heard (run (left s c) cs)
+    → heardOf (run s (c ∷ cs)) ≡ exchange s c ∷ heardOf (run (left s c) cs)
 unfolding run
 heard-first s c cs a =
     keep-yes wasHeard (exchange s c) (run (left s c) cs)
     (ap (λ (e : Exchange). wasHeard e) (a .asked) ∙ ap not (not-one (linkAt s) (c .call)))
 
-unheard-first : (s : Station) (c : Lent) (cs : List Lent) → Unasked s c → heard (run s (c ∷ cs)) ≡ heard (run s cs)
+unheard-first : (s : Station) (c : Lent) (cs : List Lent) → Unasked s c → heardOf (run s (c ∷ cs)) ≡ heardOf (run s cs)
 unfolding run
 unheard-first s c cs u =
     keep-no wasHeard (exchange s c) (run (left s c) cs) (ap (λ (k : ℕ). not (eqb k 1)) (u .one))
-    ∙ ap (λ (t : Station). heard (run t cs)) (u .same)
+    ∙ ap (λ (t : Station). heardOf (run t cs)) (u .same)
 
 -- A run on a store of its length.
 pub fitting-append : (cs ds : List Lent) → fitting (cs ++ ds) ≡ fitting cs ++ fitting ds
 fitting-append cs ds =
-    ap (map (λ (c : Lent). c .call)) (keep-append fits cs ds) ∙ map-append (λ (c : Lent). c .call) (keep fits cs) (keep fits ds)
+    ap (map (λ (c : Lent). c .call)) (keep-append lentEnough cs ds) ∙ map-append (λ (c : Lent). c .call) (keep lentEnough cs) (keep lentEnough ds)
 
-pub fitting-yes : (c : Lent) (cs : List Lent) → fits c ≡ true → fitting (c ∷ cs) ≡ c .call ∷ fitting cs
-fitting-yes c cs f = ap (map (λ (x : Lent). x .call)) (keep-yes fits c cs f)
+pub fitting-yes : (c : Lent) (cs : List Lent) → lentEnough c ≡ true → fitting (c ∷ cs) ≡ c .call ∷ fitting cs
+fitting-yes c cs f = ap (map (λ (x : Lent). x .call)) (keep-yes lentEnough c cs f)
 
-pub fitting-no : (c : Lent) (cs : List Lent) → fits c ≡ false → fitting (c ∷ cs) ≡ fitting cs
-fitting-no c cs f = ap (map (λ (x : Lent). x .call)) (keep-no fits c cs f)
+pub fitting-no : (c : Lent) (cs : List Lent) → lentEnough c ≡ false → fitting (c ∷ cs) ≡ fitting cs
+fitting-no c cs f = ap (map (λ (x : Lent). x .call)) (keep-no lentEnough c cs f)
 
-pub right-is : (s : Station) (c : Lent) → Sane (s .state) (s .store) → lentRight (s .store) (c .out) ≡ fits c
+pub right-is : (s : Station) (c : Lent) → Sane (s .state) (s .store) → lentRight (s .store) (c .out) ≡ lentEnough c
 unfolding lentRight
-right-is s c ok = ap (λ (b : Bool). b && fits c) (eq-eqb (length (s .store)) (8 * storeBytes) (ok .long))
+right-is s c ok = ap (λ (b : Bool). b && lentEnough c) (eq-eqb (length (s .store)) (8 * storeBytes) (ok .long))
 
 pub record Followed (s : Station) (cs : List Lent) : Type 0 where
-  pub heard : heard (run s cs) ≡ Rule.run (linkAt s) (fitting cs)
+  pub heard : heardOf (run s cs) ≡ Rule.run (linkAt s) (fitting cs)
   pub link : linkAt (after s cs) ≡ Rule.after (linkAt s) (fitting cs)
   pub sane : Sane (after s cs .state) (after s cs .store)
 
@@ -151,7 +151,7 @@ pub follows : (s : Station) (cs : List Lent) → Sane (s .state) (s .store) → 
 unfolding run after Rule.run Rule.after keep
 follows s [] ok = record { heard = refl; link = refl; sane = ok }
 follows s (c ∷ cs) ok =
-    by-test (fits c)
+    by-test (lentEnough c)
     (λ f.
     let a = asks s c ok (right-is s c ok ∙ f) in
     let rest = follows (left s c) cs (a .sane) in
@@ -185,10 +185,10 @@ Wrong s = eqb (length (s .store)) (8 * storeBytes) ≡ false
 
 pub wrong-is : (s : Station) (c : Lent) → Wrong s → lentRight (s .store) (c .out) ≡ false
 unfolding lentRight
-wrong-is s c w = ap (λ (b : Bool). b && fits c) w
+wrong-is s c w = ap (λ (b : Bool). b && lentEnough c) w
 
 pub record Stuck (s : Station) (cs : List Lent) : Type 0 where
-  pub heard : heard (run s cs) ≡ []
+  pub heard : heardOf (run s cs) ≡ []
   pub same : after s cs ≡ s
 
 pub stuck : (s : Station) (cs : List Lent) → Wrong s → Stuck s cs

@@ -14,12 +14,12 @@ use Rattle.llc_rule.specs.Runs.{Exchange}
 use Rattle.llc_rule.specs.Seen.{unhindered, SeesItsOwnPast}
 use Rattle.llc_rule.specs.Claim.{Claims}
 use Rattle.record_lines.specs.Split.{inLines, recordLines}
-use Rattle.llc_state.specs.Ranges.{inRange}
+use Rattle.llc_state.specs.Ranges.{stateInRange}
 use Rattle.llc_state.specs.View.{linkIn}
 use Rattle.llc_steps.specs.Answers.{laidOut}
 use Rattle.llc.specs.Entry.{lentRight, callOf}
 use Rattle.llc_runs.specs.Runs.{Lent, Station, begin, given, exchange, run, after}
-use Rattle.llc_runs.specs.Heard.{heard, putTo}
+use Rattle.llc_runs.specs.Heard.{heardOf, putTo}
 use Rattle.llc_runs.specs.Outputs.{inOutput, ReadOff}
 
 -- The link that state and store hold.
@@ -35,7 +35,7 @@ pub record Shown (s : Station) (c : Lent) : Type 0 where
 -- "The new state and every state that a call of a run leaves have all counts and values within range, so that in a run number 1
 -- tells only of a lent length that is wrong."
 pub record InRange (store : List ℕ) (cs : List Lent) : Type 0 where
-  pub state : inRange (after (begin store) cs .state) ≡ true
+  pub state : stateInRange (after (begin store) cs .state) ≡ true
   pub number : (c : Lent) → eqb (exchange (after (begin store) cs) c .number) 1 ≡ not (lentRight (after (begin store) cs .store) (c .out))
   -- A store is right or wrong for a whole run.
   pub length : length (after (begin store) cs .store) ≡ 8 * length store
@@ -44,7 +44,7 @@ pub record InRange (store : List ℕ) (cs : List Lent) : Type 0 where
 -- Only this rules out an engine that loses places, so that a released receipt or a place in a queue cannot be had again: each
 -- later request for it is refused with 6, 7, 8 or 13, so the run is hindered and demand 3 says nothing of it.
 pub record AsStep (store : List ℕ) (cs : List Lent) : Type 0 where
-  pub heard : heard (run (begin store) cs) ≡ Rule.run new (putTo store cs)
+  pub heard : heardOf (run (begin store) cs) ≡ Rule.run new (putTo store cs)
   pub link : linkAt (after (begin store) cs) ≡ Rule.after new (putTo store cs)
 
 -- The receipts that a run leaves.

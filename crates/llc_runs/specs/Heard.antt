@@ -13,15 +13,15 @@ use Rattle.llc_runs.specs.Runs.{Lent}
 abbrev pub wasHeard : Exchange → Bool
 wasHeard e = not (eqb (e .number) 1)
 
-abbrev pub heard : List Exchange → List Exchange
-heard es = keep wasHeard es
+abbrev pub heardOf : List Exchange → List Exchange
+heardOf es = keep wasHeard es
 
 -- The calls that are lent an output as long as it must be; on a store of its length these are put to the link, on another none.
-abbrev pub fits : Lent → Bool
-fits c = leb outputBytes (length (c .out))
+abbrev pub lentEnough : Lent → Bool
+lentEnough c = leb outputBytes (length (c .out))
 
 abbrev pub fitting : List Lent → List (List ℕ)
-fitting cs = map (λ (c : Lent). c .call) (keep fits cs)
+fitting cs = map (λ (c : Lent). c .call) (keep lentEnough cs)
 
 abbrev pub putTo : List ℕ → List Lent → List (List ℕ)
 putTo store cs = cond (eqb (length store) storeBytes) (fitting cs) []

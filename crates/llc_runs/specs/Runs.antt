@@ -10,7 +10,7 @@ use Rattle.llc_rule.specs.Runs.{Exchange}
 use Rattle.llc_state.specs.States.{newState}
 use Rattle.llc_state.specs.declared.State.{State}
 use Rattle.llc_steps.specs.States.{Kept}
-use Rattle.llc.specs.Entry.{answered, callOf}
+use Rattle.llc.specs.Entry.{outcomeOf, callOf}
 
 -- A call of a run: its bytes, and the output that is lent to it.
 pub record Lent : Type 0 where
@@ -42,7 +42,7 @@ recordsOf (accepted k) = k .records
 recordsOf (refused n) = []
 
 unfoldable pub given : Station → Lent → List Record
-given s c = recordsOf (answered (s .state) (s .store) (c .out) (c .call))
+given s c = recordsOf (outcomeOf (s .state) (s .store) (c .out) (c .call))
 
 -- A call with the number that the entry point answers, and its records.
 unfoldable pub exchange : Station → Lent → Exchange

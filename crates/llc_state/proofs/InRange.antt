@@ -15,7 +15,7 @@ use Rattle.llc_pdus.specs.Writes.{longestOf, longestSent}
 use Rattle.llc_rule.specs.Limits.{storePlaces}
 use Rattle.llc_rule.specs.Ranges.{isType, isReceipt}
 use Rattle.llc_state.specs.Progress.{newProgress, submittedAfter, doneAt, withProgress}
-use Rattle.llc_state.specs.Ranges.{ifThere, isSsi, sentInRange, progressInRange, entryInRange, messageInRange, udataInRange, ackInRange, rowInRange, placeInRange, headInRange, inRange}
+use Rattle.llc_state.specs.Ranges.{ifThere, isSsi, sentInRange, progressInRange, entryInRange, messageInRange, udataInRange, ackInRange, rowInRange, placeInRange, headInRange, stateInRange}
 use Rattle.llc_state.specs.declared.Progress.{Progress}
 use Rattle.llc_state.specs.declared.Entry.{Entry}
 use Rattle.llc_state.specs.declared.State.{State}
@@ -164,8 +164,8 @@ pub record InRange (s : State) : Type 0 where
   pub rows : all rowInRange (take (s .«n_rows») (s .«link_send_seq»)) ≡ true
   pub places : all placeInRange (s .receipts) ≡ true
 
-pub range-tells : (s : State) → inRange s ≡ true → InRange s
-unfolding inRange
+pub range-tells : (s : State) → stateInRange s ≡ true → InRange s
+unfolding stateInRange
 range-tells s h =
     let e = both {y = all placeInRange (s .receipts)} h in
     let d = both {y = all rowInRange (take (s .«n_rows») (s .«link_send_seq»))} (e .0) in
@@ -174,6 +174,6 @@ range-tells s h =
     let a = both {y = all messageInRange (take (s .«n_messages») (s .«outbound_messages»))} (b .0) in
     record { head = head-tells s (a .0); messages = a .1; udata = b .1; acks = c .1; rows = d .1; places = e .1 }
 
-pub in-range : (s : State) → InRange s → inRange s ≡ true
-unfolding inRange
+pub in-range : (s : State) → InRange s → stateInRange s ≡ true
+unfolding stateInRange
 in-range s r = rw (head-holds s (r .head), r .messages, r .udata, r .acks, r .rows, r .places)

@@ -11,10 +11,10 @@ use lib.Seq.{take-all}
 use Rattle.lists.specs.Lists.{all}
 use Rattle.tdma_time.specs.Slots.{valid, first}
 use Rattle.llc_rule.specs.Messages.{free, taken}
-use Rattle.llc_state.specs.Ranges.{ifThere, sentInRange, progressInRange, entryInRange, messageInRange, udataInRange, placeInRange, headInRange, inRange}
+use Rattle.llc_state.specs.Ranges.{ifThere, sentInRange, progressInRange, entryInRange, messageInRange, udataInRange, placeInRange, headInRange, stateInRange}
 use Rattle.llc_state.specs.States.{noProgress}
 use Rattle.llc_state.specs.Receipts.{receiptOf}
-use Rattle.llc_state.specs.View.{frameIn, sentIn, messageIn, placeIn, linkIn}
+use Rattle.llc_state.specs.View.{frameAt, sentIn, messageIn, placeIn, linkIn}
 use Rattle.llc_state.specs.InUse.{usedSent, usedProgress, usedOf, usedMessage, usedUdata, usedPlace, used}
 use Rattle.llc_state.specs.declared.Progress.{Progress}
 use Rattle.llc_state.specs.declared.Entry.{Entry}
@@ -69,8 +69,8 @@ place-asked : (p : ReceiptPlace) → placeInRange (usedPlace p) ≡ placeInRange
 unfolding placeInRange
 place-asked p = there-same (p .taken) (λ (n : ℕ). ltb n 5) (p .state) 0
 
-pub used-asked : (s : State) → inRange (used s) ≡ inRange s
-unfolding inRange headInRange used
+pub used-asked : (s : State) → stateInRange (used s) ≡ stateInRange s
+unfolding stateInRange headInRange used
 used-asked s =
     rw (
       take-made usedMessage (s .«n_messages») (s .«outbound_messages»),
@@ -85,7 +85,7 @@ used-asked s =
 -- The link ---------------------------------------------------------------------------------------------------------------
 
 sent-seen : (store : List ℕ) (e : Entry) (p : Progress) → sentIn store (usedOf e p) ≡ sentIn store e
-unfolding sentIn frameIn usedSent
+unfolding sentIn frameAt usedSent
 sent-seen store e p =
     rw (some-same (e .sent .«has_mask») (e .sent .mask) 0, take-twice (e .sent .«block_len») (e .sent .block))
 

@@ -9,7 +9,7 @@ use Rattle.tdma_time.specs.Slots.{valid}
 use Rattle.tdma_time.specs.declared.TdmaTime.{TdmaTime}
 use Rattle.llc_rule.specs.Messages.{noReceipts}
 use Rattle.llc_rule.specs.Link.{new, startedWith, withTime}
-use Rattle.llc_state.specs.Ranges.{placeInRange, headInRange, inRange}
+use Rattle.llc_state.specs.Ranges.{placeInRange, headInRange, stateInRange}
 use Rattle.llc_state.specs.States.{emptyState, newState, startedState, atTime}
 use Rattle.llc_state.specs.View.{placeIn, linkIn}
 use Rattle.llc_state.specs.declared.State.{State}
@@ -27,15 +27,15 @@ pub time-in : (s : State) (ts : TdmaTime) (store : List ℕ) → linkIn (atTime 
 unfolding linkIn
 time-in s ts store = refl
 
-pub new-in-range : inRange newState ≡ true
-unfolding inRange headInRange placeInRange emptyState all valid
+pub new-in-range : stateInRange newState ≡ true
+unfolding stateInRange headInRange placeInRange emptyState all valid
 new-in-range = refl
 
-pub started-in-range : (carrier t251 : ℕ) → ltb 0 t251 ≡ true → inRange (startedState carrier t251) ≡ true
-unfolding inRange headInRange placeInRange emptyState all valid
+pub started-in-range : (carrier t251 : ℕ) → ltb 0 t251 ≡ true → stateInRange (startedState carrier t251) ≡ true
+unfolding stateInRange headInRange placeInRange emptyState all valid
 started-in-range carrier t251 h = rw h
 
-pub time-in-range : (s : State) (ts : TdmaTime) → inRange s ≡ true → valid ts ≡ true → inRange (atTime s ts) ≡ true
+pub time-in-range : (s : State) (ts : TdmaTime) → stateInRange s ≡ true → valid ts ≡ true → stateInRange (atTime s ts) ≡ true
 time-in-range s ts h v =
     let r = range-tells s h in
     let q = r .head in

@@ -76,8 +76,8 @@ headInRange s =
     && ifThere (s .started) (ltb 0 (s .t251) && valid (s .dltime))
 
 -- The whole state.
-unfoldable pub inRange : State → Bool
-inRange s =
+unfoldable pub stateInRange : State → Bool
+stateInRange s =
     headInRange s
     && all messageInRange (take (s .«n_messages») (s .«outbound_messages»))
     && all udataInRange (take (s .«n_udata») (s .«outbound_udata_messages»))

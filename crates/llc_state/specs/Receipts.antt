@@ -38,11 +38,11 @@ receiptOf p = record { «expects_ack» = p .«expects_ack»; state = numbered (p
 abbrev pub takenBy : TxReceipt → ReceiptPlace
 takenBy r = record { taken = true; «expects_ack» = r .«expects_ack»; state = number (r .state) }
 
-abbrev pub requested : Bool → TxReceipt
-requested expects = record { «expects_ack» = expects; state = Pending }
+abbrev pub requestedReceipt : Bool → TxReceipt
+requestedReceipt expects = record { «expects_ack» = expects; state = Pending }
 
 abbrev pub pendingPlace : Bool → ReceiptPlace
-pendingPlace expects = takenBy (requested expects)
+pendingPlace expects = takenBy (requestedReceipt expects)
 
 -- A place with another receipt, and with its receipt marked, if it is taken.
 abbrev pub withReceipt : TxReceipt → ReceiptPlace → ReceiptPlace

@@ -23,8 +23,8 @@ abbrev pub placeBit : ℕ → ℕ
 placeBit p = 8 * (placeBytes * p)
 
 -- The frame of a message.
-unfoldable pub frameIn : List ℕ → Entry → List ℕ
-frameIn store e = part store (placeBit (e .frame .place)) (e .frame .len)
+unfoldable pub frameAt : List ℕ → Entry → List ℕ
+frameAt store e = part store (placeBit (e .frame .place)) (e .frame .len)
 
 -- What is handed down, with a frame; a message as it is handed down.
 abbrev pub sentWith : List ℕ → TmaUnitdataReq → Sent
@@ -44,7 +44,7 @@ sentWith pdu r =
     }
 
 unfoldable pub sentIn : List ℕ → Entry → Sent
-sentIn store e = sentWith (frameIn store e) (e .sent)
+sentIn store e = sentWith (frameAt store e) (e .sent)
 
 -- A message that has come so far; an acknowledged message.
 abbrev pub messageWith : Sent → Progress → Message

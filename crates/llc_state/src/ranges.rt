@@ -3,7 +3,7 @@ ghost use Prim.Native.Nat.{_≤_};
 ghost use mathlib.Core.Path.{_≡_};
 ghost use lib.ListN.{take};
 ghost use Rattle.lists.specs.Lists.{all};
-ghost use Rattle.llc_state.specs.Ranges.{sentInRange, progressInRange, entryInRange, messageInRange, udataInRange, ackInRange, placeInRange, rowInRange, headInRange, inRange};
+ghost use Rattle.llc_state.specs.Ranges.{sentInRange, progressInRange, entryInRange, messageInRange, udataInRange, ackInRange, placeInRange, rowInRange, headInRange, stateInRange};
 use crate::Entry;
 use crate::LinkSendSeq;
 use crate::Progress;
@@ -176,7 +176,7 @@ impl State {
 
     /// Is every count, and every value in use, within its range?
     pub fn in_range(self) -> bool
-        ensures { λ r. ⌜ r ≡ inRange self ⌝ }
+        ensures { λ r. ⌜ r ≡ stateInRange self ⌝ }
     {
         if !self.head_in_range() {
             return false;

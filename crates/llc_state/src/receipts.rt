@@ -3,7 +3,7 @@ ghost use mathlib.Core.Path.{_≡_};
 ghost use mathlib.Core.Bool.{_&&_};
 ghost use Prim.Native.Nat.{_<_};
 ghost use Rattle.tx_receipt.specs.Marks.{transmitted, discarded, acknowledged, lost, reset, allowed};
-ghost use Rattle.llc_state.specs.Receipts.{receiptOf, takenBy, requested as requestedReceipt, withReceipt, markedPlace, markReceipt, takeReceipt, freeReceipt};
+ghost use Rattle.llc_state.specs.Receipts.{receiptOf, takenBy, requestedReceipt, withReceipt, markedPlace, markReceipt, takeReceipt, freeReceipt};
 use crate::ReceiptPlace;
 use crate::State;
 use crate::marks;

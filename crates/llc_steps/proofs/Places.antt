@@ -15,7 +15,7 @@ use Rattle.lists.proofs.Choices.{by-test, neither, clash}
 use Rattle.bits.specs.Bits.{part, splice}
 use Rattle.bits.proofs.Laws.{part-take}
 use Rattle.llc_rule.specs.Limits.{placeBits, storeBytes, storePlaces}
-use Rattle.llc_state.specs.View.{placeBit, frameIn}
+use Rattle.llc_state.specs.View.{placeBit, frameAt}
 use Rattle.llc_state.specs.declared.Entry.{Entry}
 use Rattle.llc_state.specs.declared.State.{State}
 use Rattle.llc_steps.specs.Places.{firstFree, usedPlaces, freePlace}
@@ -180,7 +180,7 @@ pub frame-elsewhere :
     → eqb (e .frame .place) p ≡ false
     → length vs ≤ placeBits
     → e .frame .len ≤ placeBits
-    → frameIn (splice store (placeBit p) vs) e ≡ frameIn store e
-unfolding frameIn
+    → frameAt (splice store (placeBit p) vs) e ≡ frameAt store e
+unfolding frameAt
 frame-elsewhere store p vs e long inside there other fits short =
     part-elsewhere store p (e .frame .place) (e .frame .len) vs long inside there other fits short

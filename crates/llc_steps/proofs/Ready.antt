@@ -9,7 +9,7 @@ use lib.Seq.{length-take-le}
 use Rattle.lists.specs.Lists.{all, All}
 use Rattle.lists.proofs.Choices.{both}
 use Rattle.llc_rule.specs.Limits.{storeBytes}
-use Rattle.llc_state.specs.Ranges.{messageInRange, udataInRange, inRange}
+use Rattle.llc_state.specs.Ranges.{messageInRange, udataInRange, stateInRange}
 use Rattle.llc_state.specs.declared.Entry.{Entry}
 use Rattle.llc_state.specs.declared.State.{State}
 use Rattle.llc_state.proofs.InRange.{entry-tells, message-tells, udata-tells, range-tells}
@@ -29,7 +29,7 @@ all-stored p f [] h = tt
 all-stored p f (e ∷ es) h = let t = both {x = p e} {y = all p es} h in (f e (t .0), all-stored p f es (t .1))
 
 -- The arrays have their lengths in every state that the code has (`lengths` of llc_state).
-pub ready : (s : State) (store : List ℕ) → Lengths s → inRange s ≡ true → length store ≡ 8 * storeBytes → Ready s store
+pub ready : (s : State) (store : List ℕ) → Lengths s → stateInRange s ≡ true → length store ≡ 8 * storeBytes → Ready s store
 ready s store long h e =
     let r = range-tells s h in
     record {

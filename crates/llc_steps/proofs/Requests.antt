@@ -28,7 +28,7 @@ use Rattle.llc_rule.specs.Link as Link
 use Rattle.llc_rule.specs.Step as Step
 use Rattle.llc_rule.specs.Step.{onAcknowledgedPath}
 use Rattle.llc_state.specs.Progress.{newProgress}
-use Rattle.llc_state.specs.View.{placeBit, frameIn, sentWith, sentIn, messageWith, messageIn, dueIn, placeIn, rowIn, linkIn}
+use Rattle.llc_state.specs.View.{placeBit, frameAt, sentWith, sentIn, messageWith, messageIn, dueIn, placeIn, rowIn, linkIn}
 use Rattle.llc_state.specs.declared.Entry.{Entry}
 use Rattle.llc_state.specs.declared.ScheduledOutAck.{ScheduledOutAck}
 use Rattle.llc_state.specs.declared.ReceiptPlace.{ReceiptPlace}
@@ -71,15 +71,15 @@ map-same g k (x ∷ l) a = ap₂ (λ (y : _) (t : List _). y ∷ t) (a .0) (map-
 -- A new message, with its frame where it takes its place.
 record Placed (s : State) (store : List ℕ) (pdu : List ℕ) (after : List ℕ) : Type 0 where
   there : (len : ℕ) → len ≡ length pdu → Rattle.bits.specs.Bits.part after (placeBit (freePlace s)) len ≡ pdu
-  messages : All (λ (e : Entry). frameIn after e ≡ frameIn store e) (messagesOf s)
-  udata : All (λ (e : Entry). frameIn after e ≡ frameIn store e) (udataOf s)
+  messages : All (λ (e : Entry). frameAt after e ≡ frameAt store e) (messagesOf s)
+  udata : All (λ (e : Entry). frameAt after e ≡ frameAt store e) (udataOf s)
 
 module _ (r : Request) (s : State) (store : List ℕ) (short : length (r .block) ≤ 64) where
   new-sent :
       (c k : ℕ) (p : Pdu) (ns : Bool) (after : List ℕ)
       → Placed s store (frameBits p (r .sdu)) after
       → sentIn after (entryOf r c k (freePlace s) (length (frameBits p (r .sdu))) ns) ≡ sentOf r c k p
-  unfolding sentIn entryOf sentOf frameIn
+  unfolding sentIn entryOf sentOf frameAt
   new-sent c k p ns after ok =
       rw (take-append-seam (r .block) (replicate (64 - length (r .block)) 0), ok .there (length (frameBits p (r .sdu))) refl)
 
@@ -92,24 +92,24 @@ module _ (r : Request) (s : State) (store : List ℕ) (short : length (r .block)
   data-pdu-in ns nothing = refl
   data-pdu-in ns (first d ds) = refl
 
-  sent-same : (after : List ℕ) (e : Entry) → frameIn after e ≡ frameIn store e → sentIn after e ≡ sentIn store e
+  sent-same : (after : List ℕ) (e : Entry) → frameAt after e ≡ frameAt store e → sentIn after e ≡ sentIn store e
   unfolding sentIn
   sent-same after e f = ap (λ (pdu : List ℕ). sentWith pdu (e .sent)) f
 
-  message-same : (after : List ℕ) (e : Entry) → frameIn after e ≡ frameIn store e → messageIn after e ≡ messageIn store e
+  message-same : (after : List ℕ) (e : Entry) → frameAt after e ≡ frameAt store e → messageIn after e ≡ messageIn store e
   unfolding messageIn
   message-same after e f = ap (λ (x : Sent). messageWith x (e .progress)) (sent-same after e f)
 
   messages-same : (pdu after : List ℕ) → Placed s store pdu after → map (messageIn after) (messagesOf s) ≡ map (messageIn store) (messagesOf s)
   messages-same pdu after ok =
       map-same (messageIn after) (messageIn store) (messagesOf s)
-      (all-map (λ (e : Entry). frameIn after e ≡ frameIn store e) (λ (e : Entry). messageIn after e ≡ messageIn store e) (messagesOf s)
+      (all-map (λ (e : Entry). frameAt after e ≡ frameAt store e) (λ (e : Entry). messageIn after e ≡ messageIn store e) (messagesOf s)
       (message-same after) (ok .messages))
 
   udata-same : (pdu after : List ℕ) → Placed s store pdu after → map (sentIn after) (udataOf s) ≡ map (sentIn store) (udataOf s)
   udata-same pdu after ok =
       map-same (sentIn after) (sentIn store) (udataOf s)
-      (all-map (λ (e : Entry). frameIn after e ≡ frameIn store e) (λ (e : Entry). sentIn after e ≡ sentIn store e) (udataOf s)
+      (all-map (λ (e : Entry). frameAt after e ≡ frameAt store e) (λ (e : Entry). sentIn after e ≡ sentIn store e) (udataOf s)
       (sent-same after) (ok .udata))
 
   -- The link is the same in the store with the new frame.
@@ -201,13 +201,13 @@ placed s store pdu ok few short =
     let p : ℕ = freePlace s in
     let free = free-place s (omega (arith, ok .counted .messages, ok .counted .udata)) in
     let Q : Entry → Type 0 = λ e. eqb (e .frame .place) p ≡ false in
-    let same : (e : Entry) → Stored e → Q e → frameIn (splice store (placeBit p) pdu) e ≡ frameIn store e =
+    let same : (e : Entry) → Stored e → Q e → frameAt (splice store (placeBit p) pdu) e ≡ frameAt store e =
     λ e in-range other. frame-elsewhere store p pdu e (ok .long) (free .0) (in-range .0) other short (omega (arith, in-range .1))
     in
     record {
       there = λ n e. ap (Rattle.bits.specs.Bits.part (splice store (placeBit p) pdu) (placeBit p)) e ∙ part-there store p pdu (ok .long) (free .0) short;
-      messages = all-both Stored Q (λ (e : Entry). frameIn (splice store (placeBit p) pdu) e ≡ frameIn store e) (messagesOf s) same (ok .messages) (free .1);
-      udata = all-both Stored Q (λ (e : Entry). frameIn (splice store (placeBit p) pdu) e ≡ frameIn store e) (udataOf s) same (ok .udata) (free .2);
+      messages = all-both Stored Q (λ (e : Entry). frameAt (splice store (placeBit p) pdu) e ≡ frameAt store e) (messagesOf s) same (ok .messages) (free .1);
+      udata = all-both Stored Q (λ (e : Entry). frameAt (splice store (placeBit p) pdu) e ≡ frameAt store e) (udataOf s) same (ok .udata) (free .2);
     }
 
 module _ (r : Request) (s : State) (store : List ℕ) (ok : Ready s store) (block : length (r .block) ≤ 64) (sdu : length (r .sdu) ≤ longest) where

@@ -27,7 +27,7 @@ use Rattle.llc_steps.proofs.SaneCalls.{received-sane, receipt-sane}
 
 empty-sane :
     (started : Bool) (carrier t251 : ℕ) (store : List ℕ)
-    → Ranges.inRange (emptyState started carrier t251) ≡ true
+    → Ranges.stateInRange (emptyState started carrier t251) ≡ true
     → length store ≡ 8 * storeBytes
     → Sane (emptyState started carrier t251) store
 unfolding emptyState

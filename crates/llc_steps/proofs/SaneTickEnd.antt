@@ -22,7 +22,7 @@ use Rattle.llc_state.specs.declared.State.{State}
 use Rattle.llc_state.proofs.InRange.{progress-tells, submitted-fits, done-fits, message-tells, come-fits, range-tells}
 use Rattle.llc_steps.specs.States.{messagesOf, withMessages}
 use Rattle.llc_steps.specs.Sane.{Sane}
-use Rattle.llc_steps.specs.TickEnd.{submitted, timed, aged, retransmission, Sending, firstSending, retransmissions, firstSendings, ticked, newlyDone, isDue, afterRetransmissions, afterSendings}
+use Rattle.llc_steps.specs.TickEnd.{submittedEntry, timed, aged, retransmission, Sending, firstSending, retransmissions, firstSendings, ticked, newlyDone, isDue, afterRetransmissions, afterSendings}
 use Rattle.llc_steps.proofs.SaneSetters.{Full, places-full, Used, none-used, marked-full, messages-used, messages-sane, udata-sane, acks-sane, places-sane}
 
 -- A visit after which at most k stay, each of which passes a test, and the state is as it has to be.
@@ -56,7 +56,7 @@ one-stays : {A : Type 0} (p : A → Bool) (x : A) → p x ≡ true → Used p 1 
 one-stays p x e = record { few = omega arith; each = (e, tt) }
 
 -- An entry stays in range where it is passed down, and where it gets its done time.
-pub submitted-in-range : (k : ℕ) (e : Entry) → k ≤ 3 → messageInRange e ≡ true → messageInRange (submitted k e) ≡ true
+pub submitted-in-range : (k : ℕ) (e : Entry) → k ≤ 3 → messageInRange e ≡ true → messageInRange (submittedEntry k e) ≡ true
 submitted-in-range k e few h = come-fits e (submittedAfter k (e .progress)) h (submitted-fits k (e .progress) few)
 
 pub done-in-range : (time : TdmaTime) (e : Entry) → valid time ≡ true → messageInRange e ≡ true → messageInRange (withProgress e (doneAt time (e .progress))) ≡ true
@@ -86,7 +86,7 @@ aged-visited time t251 ps e n h =
     (λ t.
     record {
       stays =
-          one-stays messageInRange (submitted (e .progress .«retransmit_count» + 1) e)
+          one-stays messageInRange (submittedEntry (e .progress .«retransmit_count» + 1) e)
           (submitted-in-range (e .progress .«retransmit_count» + 1) e (omega (arith, ltb-true (e .progress .«retransmit_count») 3 t)) h);
       state = marked-full Marks.reset (e .sent .receipt) ps n;
     })
@@ -116,7 +116,7 @@ first-visited s e n h =
     (record { stays = one-stays messageInRange e h; state = n })
     (record {
       stays =
-          one-stays messageInRange (submitted (e .progress .«retransmit_count») e)
+          one-stays messageInRange (submittedEntry (e .progress .«retransmit_count») e)
           (submitted-in-range (e .progress .«retransmit_count») e (progress-tells (e .progress) (message-tells e h .progress) .count) h);
       state = marked-full Marks.reset (e .sent .receipt) (s .receipts) n;
     }))

@@ -18,7 +18,7 @@ use Rattle.llc_rule.specs.Link as Link
 use Rattle.llc_rule.specs.Step as Step
 use Rattle.llc_state.specs.States.{noEntry}
 use Rattle.llc_state.specs.Progress.{doneAt, withProgress}
-use Rattle.llc_state.specs.View.{frameIn, sentIn, messageIn, dueIn, placeIn, linkIn}
+use Rattle.llc_state.specs.View.{frameAt, sentIn, messageIn, dueIn, placeIn, linkIn}
 use Rattle.llc_state.specs.declared.Entry.{Entry}
 use Rattle.llc_state.specs.declared.ReceiptPlace.{ReceiptPlace}
 use Rattle.llc_state.specs.declared.State.{State}
@@ -26,7 +26,7 @@ use Rattle.llc_state.specs.Receipts.{receiptOf, placeOf, mark, withPlaces}
 use Rattle.llc_state.proofs.Places.{mark-in, taken-in}
 use Rattle.llc_state.proofs.Maps.{map-append, map-map}
 use Rattle.llc_steps.specs.States.{messagesOf, udataOf, acksOf, withMessages, withAcks}
-use Rattle.llc_steps.specs.TickEnd.{submitted, timed, stay, resend, leave, aged, retransmission, Sending, firstSending, retransmissions, firstSendings, ticked, tickRecords, afterRetransmissions, afterSendings}
+use Rattle.llc_steps.specs.TickEnd.{submittedEntry, timed, stay, resend, leave, aged, retransmission, Sending, firstSending, retransmissions, firstSendings, ticked, tickRecords, afterRetransmissions, afterSendings}
 use Rattle.llc_steps.proofs.Setters.{messages-in, udata-in, acks-in, places-in}
 
 -- A walk seen through views of its state, its elements and what it puts out.
@@ -63,7 +63,7 @@ module _ (store : List ℕ) where
   viewed₁ v = viewed (map placeIn) (messageIn store) handed v
 
   timed-in : (time : TdmaTime) (ps : List ReceiptPlace) (e : Entry) → Step.timed time (map placeIn ps) (messageIn store e) ≡ messageIn store (timed time ps e)
-  unfolding messageIn sentIn frameIn
+  unfolding messageIn sentIn frameAt
   timed-in time ps e =
       let test : Bool =
       not (e .progress .«has_umac_done») && (placeOf ps (e .sent .receipt) .taken && reported (receiptOf (placeOf ps (e .sent .receipt))))
@@ -76,17 +76,17 @@ module _ (store : List ℕ) where
   stay-in ps e = refl
 
   resend-in : (ps : List ReceiptPlace) (e : Entry) → Step.resend (map placeIn ps) (messageIn store e) ≡ viewed₁ (resend ps e)
-  unfolding messageIn sentIn frameIn
+  unfolding messageIn sentIn frameAt
   resend-in ps e =
       λ i.
       record {
         state = sym (mark-in Marks.reset (e .sent .receipt) ps) i;
-        stays = messageIn store (submitted (sym (add-one (e .progress .«retransmit_count»)) i) e) ∷ [];
+        stays = messageIn store (submittedEntry (sym (add-one (e .progress .«retransmit_count»)) i) e) ∷ [];
         out = handed e ∷ [];
       }
 
   leave-in : (ps : List ReceiptPlace) (e : Entry) → Step.leave (map placeIn ps) (messageIn store e) ≡ viewed₁ (leave ps e)
-  unfolding messageIn sentIn frameIn
+  unfolding messageIn sentIn frameAt
   leave-in ps e = λ i. record { state = sym (mark-in Marks.lost (e .sent .receipt) ps) i; stays = []; out = [] }
 
   aged-by :
@@ -125,13 +125,13 @@ module _ (store : List ℕ) where
   viewed₂ v = viewed sendingIn (messageIn store) handed v
 
   first-in : (s : Sending) (e : Entry) → Step.firstSending (sendingIn s) (messageIn store e) ≡ viewed₂ (firstSending s e)
-  unfolding Step.firstSending firstSending messageIn sentIn frameIn
+  unfolding Step.firstSending firstSending messageIn sentIn frameAt
   first-in s e =
       let going : Visit Sending Entry Entry = stay (record { receipts = s .receipts; blocked = e .sent .ssi ∷ s .blocked }) e in
       let sending : Visit Sending Entry Entry =
       record {
         state = record { receipts = mark Marks.reset (e .sent .receipt) (s .receipts); blocked = e .sent .ssi ∷ s .blocked };
-        stays = submitted (e .progress .«retransmit_count») e ∷ [];
+        stays = submittedEntry (e .progress .«retransmit_count») e ∷ [];
         out = e ∷ [];
       }
       in
@@ -139,7 +139,7 @@ module _ (store : List ℕ) where
       let sending-in : Visit Step.Sending Message Record =
       record {
         state = record { receipts = Rule.mark Marks.reset (e .sent .receipt) (map placeIn (s .receipts)); blocked = e .sent .ssi ∷ s .blocked };
-        stays = messageIn store (submitted (e .progress .«retransmit_count») e) ∷ [];
+        stays = messageIn store (submittedEntry (e .progress .«retransmit_count») e) ∷ [];
         out = handed e ∷ [];
       }
       in
@@ -147,7 +147,7 @@ module _ (store : List ℕ) where
       λ i.
       record {
         state = record { receipts = sym (mark-in Marks.reset (e .sent .receipt) (s .receipts)) i; blocked = e .sent .ssi ∷ s .blocked };
-        stays = messageIn store (submitted (e .progress .«retransmit_count») e) ∷ [];
+        stays = messageIn store (submittedEntry (e .progress .«retransmit_count») e) ∷ [];
         out = handed e ∷ [];
       }
       in

@@ -7,7 +7,7 @@ use lib.ListN.{length}
 use lib.Seq.{length-take-le}
 use Rattle.lists.proofs.Arrays.{laid-same}
 use Rattle.llc_state.specs.declared.State.{State}
-use Rattle.llc_state.specs.Ranges.{inRange}
+use Rattle.llc_state.specs.Ranges.{stateInRange}
 use Rattle.llc_state.specs.States.{noAck}
 use Rattle.llc_state.proofs.InRange.{range-tells}
 use Rattle.llc_state.proofs.Lengths.{Lengths}
@@ -25,7 +25,7 @@ pub record Counts (s : State) : Type 0 where
   pub messages : s .«n_messages» ≤ length (s .«outbound_messages»)
   pub acks : s .«n_acks» ≤ length (s .«scheduled_out_acks»)
 
-pub counts : (s : State) → inRange s ≡ true → Lengths s → Counts s
+pub counts : (s : State) → stateInRange s ≡ true → Lengths s → Counts s
 counts s h l =
     let r = range-tells s h .head in
     record {

@@ -6,7 +6,7 @@ use mathlib.Core.List.{List}
 use lib.ListN.{length}
 use Rattle.questions.specs.Outcome.{Outcome, accepted, refused}
 use Rattle.llc_rule.specs.Limits.{storeBytes}
-use Rattle.llc_state.specs.Ranges.{inRange}
+use Rattle.llc_state.specs.Ranges.{stateInRange}
 use Rattle.llc_state.specs.declared.State.{State}
 use Rattle.llc_steps.specs.States.{Kept}
 
@@ -16,7 +16,7 @@ pub record Sane (s : State) (store : List ℕ) : Type 0 where
   pub acks : length (s .«scheduled_out_acks») ≡ 64
   pub places : length (s .receipts) ≡ 128
   pub rows : length (s .«link_send_seq») ≡ 256
-  pub range : inRange s ≡ true
+  pub range : stateInRange s ≡ true
   pub long : length store ≡ 8 * storeBytes
 
 -- What an accepted call leaves is so.

@@ -18,8 +18,8 @@ use Rattle.llc_state.specs.declared.State.{State}
 use Rattle.llc_steps.specs.States.{messagesOf, udataOf, acksOf, withMessages, withUdata, withAcks}
 
 -- An entry as passed down after so many retransmissions.
-abbrev pub submitted : ℕ → Entry → Entry
-submitted k e = withProgress e (submittedAfter k (e .progress))
+abbrev pub submittedEntry : ℕ → Entry → Entry
+submittedEntry k e = withProgress e (submittedAfter k (e .progress))
 
 -- Is it reported and has no done time yet? The message with its done time.
 abbrev pub newlyDone : ReceiptPlace → Entry → Bool
@@ -41,7 +41,7 @@ stay s e = record { state = s; stays = e ∷ []; out = [] }
 
 abbrev pub resend : List ReceiptPlace → Entry → Visit (List ReceiptPlace) Entry Entry
 resend ps e =
-    record { state = mark Marks.reset (e .sent .receipt) ps; stays = submitted (e .progress .«retransmit_count» + 1) e ∷ []; out = e ∷ [] }
+    record { state = mark Marks.reset (e .sent .receipt) ps; stays = submittedEntry (e .progress .«retransmit_count» + 1) e ∷ []; out = e ∷ [] }
 
 abbrev pub leave : List ReceiptPlace → Entry → Visit (List ReceiptPlace) Entry Entry
 leave ps e =
@@ -69,7 +69,7 @@ firstSending s e =
     (stay s e)
     (record {
       state = record { receipts = mark Marks.reset (e .sent .receipt) (s .receipts); blocked = e .sent .ssi ∷ s .blocked };
-      stays = submitted (e .progress .«retransmit_count») e ∷ [];
+      stays = submittedEntry (e .progress .«retransmit_count») e ∷ [];
       out = e ∷ [];
     }))
 

@@ -22,7 +22,7 @@ use Rattle.llc_state.specs.declared.Entry.{Entry}
 use Rattle.llc_state.specs.declared.ReceiptPlace.{ReceiptPlace}
 use Rattle.llc_state.specs.declared.State.{State}
 use Rattle.llc_steps.specs.States.{messagesOf, withMessages, putMessages}
-use Rattle.llc_steps.specs.TickEnd.{submitted, stay, Sending, firstSending, firstSendings, afterSendings}
+use Rattle.llc_steps.specs.TickEnd.{submittedEntry, stay, Sending, firstSending, firstSendings, afterSendings}
 use Rattle.llc_tick_end.specs.Passes.{sentBytesOf}
 use Rattle.llc_tick_end.proofs.Blocked.{Filled, none-yet, as-before, one-more}
 use Rattle.llc_tick_end.proofs.Entries.{Measures, message-measures}
@@ -42,7 +42,7 @@ abbrev sends : Sending → Entry → Visit Sending Entry Entry
 sends s e =
     record {
       state = record { receipts = mark reset (e .sent .receipt) (s .receipts); blocked = e .sent .ssi ∷ s .blocked };
-      stays = submitted (e .progress .«retransmit_count») e ∷ [];
+      stays = submittedEntry (e .progress .«retransmit_count») e ∷ [];
       out = e ∷ [];
     }
 
@@ -222,11 +222,11 @@ module _ {s : State} {store l : List ℕ} {at₀ : ℕ} {out : List ℕ} {next :
           → place ≡ markedPlace reset (placeOf (next .receipts) (e .sent .receipt))
           → Passing s store l at₀ m
           (withArrays next
-          (set (next .«outbound_messages») i (submitted (e .progress .«retransmit_count») e))
+          (set (next .«outbound_messages») i (submittedEntry (e .progress .«retransmit_count») e))
           (set (next .receipts) (e .sent .receipt) place))
           j (set ssis (k - 1) (e .sent .ssi)) (k - 1) (i + 1)
       is-sent {place} wr marked =
-          let x : Entry = submitted (e .progress .«retransmit_count») e in
+          let x : Entry = submittedEntry (e .progress .«retransmit_count») e in
           let ps : List ReceiptPlace = h .visits .state .receipts in
           let placed : place ≡ markedPlace reset (placeOf ps (e .sent .receipt)) =
           marked ∙ ap (λ (t : State). markedPlace reset (placeOf (t .receipts) (e .sent .receipt))) (h .holds)

@@ -9,7 +9,6 @@ pub mod InPlace
 pub mod Overdue
 pub mod Retransmitting
 pub mod Room
-pub mod Sendings
 pub mod SentBytes
 pub mod Walking
 pub mod Whole

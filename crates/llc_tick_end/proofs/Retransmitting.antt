@@ -19,7 +19,7 @@ use Rattle.tdma_time.specs.declared.TdmaTime.{TdmaTime}
 use Rattle.tx_receipt.specs.Marks.{lost, reset}
 use Rattle.llc_rule.specs.Records.{sentBytes}
 use Rattle.llc_state.specs.Progress.{doneAt, withProgress}
-use Rattle.llc_state.specs.Ranges.{inRange, ifThere, messageInRange}
+use Rattle.llc_state.specs.Ranges.{stateInRange, ifThere, messageInRange}
 use Rattle.llc_state.specs.Receipts.{withPlaces, markedPlace, placeOf, mark}
 use Rattle.llc_state.specs.View.{sentIn}
 use Rattle.llc_state.specs.declared.Entry.{Entry}
@@ -28,7 +28,7 @@ use Rattle.llc_state.specs.declared.State.{State}
 use Rattle.llc_state.proofs.InRange.{there-holds, progress-tells, message-tells, range-tells}
 use Rattle.llc_state.proofs.Lengths.{Lengths}
 use Rattle.llc_steps.specs.States.{messagesOf, withMessages}
-use Rattle.llc_steps.specs.TickEnd.{submitted, stay, resend, leave, aged, retransmission, retransmissions, afterRetransmissions, newlyDone, timedBy, isDue}
+use Rattle.llc_steps.specs.TickEnd.{submittedEntry, stay, resend, leave, aged, retransmission, retransmissions, afterRetransmissions, newlyDone, timedBy, isDue}
 use Rattle.llc_steps.proofs.SaneTickEnd.{done-in-range}
 use Rattle.llc_tick_end.specs.Passes.{sentBytesOf}
 use Rattle.llc_tick_end.proofs.Clearing.{withArrays, withCount, Clearing, clears, cleared}
@@ -69,7 +69,7 @@ pub record Passing (s : State) (store out₀ : List ℕ) (next : State) (i j : �
   pub compacting : Compacting (s .«outbound_messages») (visit .stays) i j (next .«outbound_messages»)
   pub same : next ≡ withArrays s (next .«outbound_messages») (visit .state)
   pub wrote : Wrote out₀ 0 (sentBytesOf (bits store) (visit .out)) out at
-  pub range : inRange s ≡ true
+  pub range : stateInRange s ≡ true
   pub time : valid (s .dltime) ≡ true
   pub count : s .«n_messages» ≤ 64
   pub long : length (s .«outbound_messages») ≡ 64
@@ -79,7 +79,7 @@ pub record Passing (s : State) (store out₀ : List ℕ) (next : State) (i j : �
 abbrev held : State → ℕ → Entry → Entry
 held next i d = getD (next .«outbound_messages») i d
 
-pub passes : (s : State) (store out : List ℕ) → inRange s ≡ true → s .started ≡ true → Lengths s → Passing s store out s 0 0 out 0
+pub passes : (s : State) (store out : List ℕ) → stateInRange s ≡ true → s .started ≡ true → Lengths s → Passing s store out s 0 0 out 0
 passes s store out r on l =
     record {
       visit = record { state = s .receipts; stays = []; out = [] };
@@ -190,7 +190,7 @@ module _ {s : State} {store out₀ : List ℕ} {next : State} {i j : ℕ} {out :
             → e .progress .«retransmit_count» < 3
             → Wrote out at (sentBytes 1 (sentIn (bits store) e)) out₁ at₁
             → p ≡ markedPlace reset (placeOf (next .receipts) (held next i d .sent .receipt))
-            → f ≡ submitted (e .progress .«retransmit_count» + 1) e
+            → f ≡ submittedEntry (e .progress .«retransmit_count» + 1) e
             → Passing s store out₀
             (withArrays next (set (next .«outbound_messages») j f) (set (next .receipts) (held next i d .sent .receipt) p))
             (i + 1)

@@ -13,8 +13,8 @@ use Rattle.llc_rule.specs.Records.{allBytes}
 use Rattle.llc_rule.specs.Sizes.{SmallSent, Small}
 use Rattle.llc_rule.specs.Sound.{Within}
 use Rattle.llc_rule.proofs.Room.{tick-end-room}
-use Rattle.llc_state.specs.Ranges.{messageInRange, udataInRange, inRange}
-use Rattle.llc_state.specs.View.{placeBit, frameIn, sentIn, messageIn, dueIn, placeIn, rowIn, linkIn}
+use Rattle.llc_state.specs.Ranges.{messageInRange, udataInRange, stateInRange}
+use Rattle.llc_state.specs.View.{placeBit, frameAt, sentIn, messageIn, dueIn, placeIn, rowIn, linkIn}
 use Rattle.llc_state.specs.declared.Entry.{Entry}
 use Rattle.llc_state.specs.declared.State.{State}
 use Rattle.llc_state.proofs.InRange.{range-tells}
@@ -30,7 +30,7 @@ few n l = omega (arith, length-take n l)
 few-made : {A B : Type 0} (g : A → B) (n : ℕ) (l : List A) → length (map g (take n l)) ≤ n
 few-made g n l = omega (arith, length-map (take n l) g, few n l)
 
-pub within-in : (s : State) (store : List ℕ) → Lengths s → inRange s ≡ true → Within (linkIn s store)
+pub within-in : (s : State) (store : List ℕ) → Lengths s → stateInRange s ≡ true → Within (linkIn s store)
 unfolding linkIn
 within-in s store long h =
     let r = range-tells s h .head in
@@ -54,14 +54,14 @@ all-made p P g f [] h = tt
 all-made p P g f (x ∷ l) h = let t = both {x = p x} {y = all p l} h in (f x (t .0), all-made p P g f l (t .1))
 
 small-entry : (store : List ℕ) (e : Entry) → Measures e → SmallSent (sentIn store e)
-unfolding sentIn frameIn
+unfolding sentIn frameAt
 small-entry store e t =
     record {
       block = omega (arith, t .block, few (e .sent .«block_len») (e .sent .block));
       pdu = omega (arith, t .len, few (e .frame .len) (drop (placeBit (e .frame .place)) store));
     }
 
-pub small-in : (s : State) (store : List ℕ) → inRange s ≡ true → Small (linkIn s store)
+pub small-in : (s : State) (store : List ℕ) → stateInRange s ≡ true → Small (linkIn s store)
 unfolding linkIn messageIn
 small-in s store h =
     let r = range-tells s h in
@@ -74,5 +74,5 @@ small-in s store h =
           (take (s .«n_udata») (s .«outbound_udata_messages»)) (r .udata);
     }
 
-pub tick-room : (s : State) (store : List ℕ) → Lengths s → inRange s ≡ true → length (allBytes (tickRecords s store)) ≤ outputBytes
+pub tick-room : (s : State) (store : List ℕ) → Lengths s → stateInRange s ≡ true → length (allBytes (tickRecords s store)) ≤ outputBytes
 tick-room s store long h = rw (records-in store s) (tick-end-room (linkIn s store) (within-in s store long h) (small-in s store h))

@@ -15,7 +15,7 @@ use Rattle.llc_rule.specs.Limits.{outputBytes, storeBytes}
 use Rattle.llc_rule.specs.Calls.{tickEnd}
 use Rattle.llc_rule.specs.Records.{allBytes}
 use Rattle.llc_rule.proofs.Room.{allBytes-append}
-use Rattle.llc_state.specs.Ranges.{messageInRange, udataInRange, inRange}
+use Rattle.llc_state.specs.Ranges.{messageInRange, udataInRange, stateInRange}
 use Rattle.llc_state.specs.declared.State.{State}
 use Rattle.llc_state.proofs.InRange.{range-tells}
 use Rattle.llc_state.proofs.Lengths.{Lengths}
@@ -29,7 +29,7 @@ use Rattle.llc_tick_end.specs.Passes.{sentBytesOf, replyBytesOf, udataBy
 use Rattle.llc_tick_end.proofs.Room.{tick-room}
 
 -- The state and the store of a call that passed question 1.
-pub sane : (s : State) (store : List ℕ) → Lengths s → inRange s ≡ true → length store ≡ storeBytes → Sane s (bits store)
+pub sane : (s : State) (store : List ℕ) → Lengths s → stateInRange s ≡ true → length store ≡ storeBytes → Sane s (bits store)
 sane s store long range e =
     record {
       messages = long .messages;

@@ -6,7 +6,7 @@ ghost use lib.ListN.{length};
 ghost use Rattle.bits.specs.Bits.{bits};
 ghost use Rattle.llc_rule.specs.Limits.{outputBytes, storeBytes};
 ghost use Rattle.llc_rule.specs.Calls.{tickEnd};
-ghost use Rattle.llc_state.specs.Ranges.{inRange};
+ghost use Rattle.llc_state.specs.Ranges.{stateInRange};
 ghost use Rattle.llc_steps.specs.Answers.{effect, delivered};
 ghost use Rattle.llc_steps.specs.Steps.{acts};
 use crate::free_messages::submit_free_messages_to_umac;
@@ -18,7 +18,7 @@ use llc_steps::Answer;
 
 /// A tick end.
 pub fn tick_end(state: State, store: &[u8], out: &mut [u8]) -> Answer
-    requires { ⌜ inRange state ≡ true ⌝ }
+    requires { ⌜ stateInRange state ≡ true ⌝ }
     requires { ⌜ length (now store) ≡ storeBytes ⌝ }
     requires { ⌜ outputBytes ≤ length (now out) ⌝ }
     requires { ⌜ state .started ≡ true ⌝ }

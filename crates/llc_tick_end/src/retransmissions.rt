@@ -8,9 +8,9 @@ ghost use Rattle.bits.specs.Bits.{bits};
 ghost use Rattle.tdma_time.specs.Slots.{valid};
 ghost use Rattle.llc_rule.specs.Limits.{storeBytes};
 ghost use Rattle.llc_rule.specs.Messages.{overdue as isOverdue, reported};
-ghost use Rattle.llc_state.specs.Ranges.{ifThere, inRange};
+ghost use Rattle.llc_state.specs.Ranges.{ifThere, stateInRange};
 ghost use Rattle.llc_state.specs.Receipts.{receiptOf};
-ghost use Rattle.llc_steps.specs.TickEnd.{retransmissions, submitted as submittedEntry, afterRetransmissions, timedBy, isDue};
+ghost use Rattle.llc_steps.specs.TickEnd.{retransmissions, submittedEntry, afterRetransmissions, timedBy, isDue};
 ghost use Rattle.llc_tick_end.specs.Passes.{sentBytesOf};
 use crate::Passed;
 use crate::messages::put_message;
@@ -88,7 +88,7 @@ pub(crate) fn submit_retransmissions_to_umac(
     store: &[u8],
     out: &mut [u8],
 ) -> Passed
-    requires { ⌜ inRange state ≡ true ⌝ }
+    requires { ⌜ stateInRange state ≡ true ⌝ }
     requires { ⌜ length (now store) ≡ storeBytes ⌝ }
     requires { ⌜ length (sentBytesOf (bits (now store)) (retransmissions state .out)) ≤ length (now out) ⌝ }
     requires { ⌜ state .started ≡ true ⌝ }

@@ -11,7 +11,7 @@ use lib.Seq.{take-at, drop-at}
 use Rattle.lists.specs.Lists.{All}
 use Rattle.llc_pdus.specs.Headers.{bit}
 use Rattle.llc_rule.specs.Calls.{toBytes}
-use Rattle.llc_rule.specs.Records.{Record, acknowledged, reply, unacknowledged, dataUp, unitdataUp, Sent, Reply, Indication, field, number, pack, counted, countedIfAny, masked, sentBytes, replyBytes, indicationBytes, bytes, allBytes}
+use Rattle.llc_rule.specs.Records.{Record, acknowledged, reply, unacknowledged, dataUp, unitdataUp, Sent, Reply, Indication, field, numberField, pack, counted, countedIfAny, masked, sentBytes, replyBytes, indicationBytes, bytes, allBytes}
 use Rattle.llc_rule.specs.Sizes.{Fits, FitsBits, FitsSent, FitsReply, FitsIndication}
 use Rattle.llc_rule.proofs.Records.{fromBytes-toBytes, length-toBytes, length-field, length-counted, begins}
 use Rattle.record_lines.specs.Split.{behindTag, cut, split, inLines, recordLines}
@@ -58,7 +58,7 @@ inner-field : (tag : ℕ) (v : List ℕ) → eqb tag 0x01 ≡ false → length v
 inner-field tag v e h =
     record { on = λ x. cut-same tag ((toBytes 2 (length v) ++ v) ++ x) e ∙ split-whole tag v x h }
 
-inner-number : (tag n v : ℕ) → eqb tag 0x01 ≡ false → n < 2 ^ 16 → Inner (number tag n v)
+inner-number : (tag n v : ℕ) → eqb tag 0x01 ≡ false → n < 2 ^ 16 → Inner (numberField tag n v)
 inner-number tag n v e h = inner-field tag (toBytes n v) e (omega (arith, length-toBytes n v))
 
 inner-masked : (m : Option ℕ) → Inner (masked m)
@@ -78,9 +78,9 @@ inner-countedIfAny [] f = inner-none
 inner-countedIfAny (b ∷ l) f = inner-counted (b ∷ l) f
 
 -- Field 01 and what goes on with the record.
-split-record : (k : ℕ) (rest x : List ℕ) → Inner rest → split ((number 0x01 1 k ++ rest) ++ x) ≡ before (number 0x01 1 k ++ rest) (cut 0 x)
+split-record : (k : ℕ) (rest x : List ℕ) → Inner rest → split ((numberField 0x01 1 k ++ rest) ++ x) ≡ before (numberField 0x01 1 k ++ rest) (cut 0 x)
 split-record k rest x f =
-    let first : List ℕ = number 0x01 1 k in
+    let first : List ℕ = numberField 0x01 1 k in
     ap split (append-assoc first rest x)
     ∙ split-whole 0x01 (toBytes 1 k) (rest ++ x) (omega (arith, length-toBytes 1 k))
     ∙ ap (before first) (f .on x)

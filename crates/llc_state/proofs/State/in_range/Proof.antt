@@ -3,7 +3,7 @@ use mathlib.Core.Path.{_≡_, _∙_, sym}
 use mathlib.Core.Bool.{true}
 use borrow.Author.Tests.{not-true, not-false}
 use lib.Seq.{take-all}
-use Rattle.llc_state.specs.Ranges.{headInRange, inRange}
+use Rattle.llc_state.specs.Ranges.{headInRange, stateInRange}
 use Rattle.llc_state.proofs.InRange.{Head, head-tells}
 use Rattle.llc_state.proofs.Lengths.{lengths}
 use borrow.Author.Needs.{needs}
@@ -21,7 +21,7 @@ head-in-range-requires : tie.Need-head-in-range-requires
 head-in-range-requires c κs = search needs
 
 returns : tie.Need-returns
-unfolding inRange
+unfolding stateInRange
 returns c = rw (sym (c .before .head-in-range .ensures) ∙ not-true _ (c .if1 .taken))
 
 messages-in-range-requires : tie.Need-messages-in-range-requires
@@ -40,7 +40,7 @@ places-in-range-requires : tie.Need-places-in-range-requires
 places-in-range-requires c κs = omega arith
 
 returns-2 : tie.Need-returns-2
-unfolding inRange
+unfolding stateInRange
 returns-2 c =
     let b = c .before .before .before .before .before .before .before .before .before .before in
     let s = b .before .before .args .self in

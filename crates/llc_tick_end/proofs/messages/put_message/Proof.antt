@@ -14,7 +14,7 @@ use Rattle.llc_rule.specs.Limits.{placeBits}
 use Rattle.llc_rule.specs.Records.{sentBytes}
 use Rattle.llc_records.specs.Records.{maskIf, sent}
 use Rattle.llc_records.specs.declared.SentRecord.{SentRecord}
-use Rattle.llc_state.specs.View.{placeBit, frameIn, sentIn}
+use Rattle.llc_state.specs.View.{placeBit, frameAt, sentIn}
 use Rattle.llc_state.specs.declared.TmaUnitdataReq.{TmaUnitdataReq}
 use Rattle.llc_state.specs.declared.Entry.{Entry}
 use Rattle.llc_state.proofs.Entry.{the-type}
@@ -51,7 +51,7 @@ message-is :
     (k : ℕ) (store : List ℕ) (e : Entry)
     → sentBytes k (sent (sentOf (e .sent)) (part (e .sent .block) 0 (e .sent .«block_len»)) (part store (e .frame .place * placeBits) (e .frame .len)))
     ≡ sentBytes k (sentIn store e)
-unfolding sentIn frameIn
+unfolding sentIn frameAt
 message-is k store e =
     let place : e .frame .place * placeBits ≡ placeBit (e .frame .place) = omega arith in
     rw (place, mask-is (e .sent .«has_mask») (e .sent .mask))
