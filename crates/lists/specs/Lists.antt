@@ -40,6 +40,16 @@ abbrev pub others : {A : Type 0} → Found A → List A → List A
 others nothing l = l
 others (first x xs) l = xs
 
+-- A table of rows: the first row that passes a test, or another where none does.
+unfoldable pub firstOr : {A : Type 0} → (A → Bool) → A → List A → A
+firstOr p d [] = d
+firstOr p d (x ∷ xs) = cond (p x) x (firstOr p d xs)
+
+-- The table with a row in the place of the first that passes, behind the others where none does.
+unfoldable pub filed : {A : Type 0} → (A → Bool) → A → List A → List A
+filed p y [] = y ∷ []
+filed p y (x ∷ xs) = cond (p x) (y ∷ xs) (x ∷ filed p y xs)
+
 -- A visit to one element, or to all of a list: the state after it, what stays in the list, and what is put out.
 pub record Visit (S A R : Type 0) : Type 0 where
   pub state : S

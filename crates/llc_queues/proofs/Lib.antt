@@ -1,4 +1,3 @@
 pub mod Marking
-pub mod Search
 pub mod Arrays
 pub mod Shifting

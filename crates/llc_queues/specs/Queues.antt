@@ -4,15 +4,10 @@ use mathlib.Core.Bool.{Bool, not, _&&_}
 use lib.Dec.{eqb}
 use Rattle.llc_state.specs.declared.Entry.{Entry}
 use Rattle.llc_state.specs.declared.ScheduledOutAck.{ScheduledOutAck}
-use Rattle.llc_state.specs.declared.LinkSendSeq.{LinkSendSeq}
 
--- An acknowledgement due on an SSI and carrier, the row of an SSI, a message
--- of an SSI and carrier that was passed down, and one with a receipt.
+-- An acknowledgement due on an SSI and carrier, a message of an SSI and carrier that was passed down, and one with a receipt.
 abbrev pub ackOn : ℕ → ℕ → ScheduledOutAck → Bool
 ackOn ssi carrier d = eqb (d .ssi) ssi && eqb (d .«carrier_num») carrier
-
-abbrev pub rowOf : ℕ → LinkSendSeq → Bool
-rowOf ssi r = eqb (r .ssi) ssi
 
 abbrev pub expectedOn : ℕ → ℕ → Entry → Bool
 expectedOn ssi carrier e = eqb (e .sent .ssi) ssi && (eqb (e .sent .«carrier_num») carrier && e .progress .«submitted_to_umac»)

@@ -25,10 +25,10 @@ use Rattle.llc_state.specs.declared.State.{State}
 use Rattle.llc_state.proofs.InRange.{range-tells}
 use Rattle.llc_state.proofs.Lengths.{Lengths}
 use Rattle.llc_steps.specs.Answers.{effect, answer, delivered, WithAnyOut}
-use Rattle.llc_steps.specs.Calls.{carrierFor, ackFor, withAcknowledged, withUnacknowledged, withStolen, rowFor, onData, onUnitdata}
+use Rattle.llc_steps.specs.Calls.{carrierFor, ackFor, withAcknowledged, withUnacknowledged, withStolen, rowFor, onData, onUnitdata, rowOf}
 use Rattle.llc_steps.specs.States.{acksOf, rowsOf, Kept}
 use Rattle.llc_steps.specs.declared.Answer.{Answer}
-use Rattle.llc_queues.specs.Queues.{ackOn, rowOf}
+use Rattle.llc_queues.specs.Queues.{ackOn}
 
 -- An effect by the outcome's own name, and the effect of a no.
 pub as-asked :
@@ -50,7 +50,7 @@ row-for :
     (r : Request) (s : State)
     → length (rowsOf s) ≡ s .«n_rows»
     → s .«n_rows» ≤ 256
-    → rowFor r s ≡ ltb (position (rowOf (r .ssi)) (rowsOf s)) 256
+    → rowFor (r .ssi) s ≡ ltb (position (rowOf (r .ssi)) (rowsOf s)) 256
 unfolding rowFor
 row-for r s long few =
     let row : ℕ = position (rowOf (r .ssi)) (rowsOf s) in
@@ -101,7 +101,7 @@ module _ (r : Request) (s : State) (b : List ℕ) where
 
   -- On the acknowledged path.
   module _ (t : taken ≡ false) (path : onAcknowledgedPath r ≡ true) (long : Lengths s) (ok : stateInRange s ≡ true) where
-    asks-7 : rowFor r s ≡ ltb (position (rowOf (r .ssi)) (rowsOf s)) 256
+    asks-7 : rowFor (r .ssi) s ≡ ltb (position (rowOf (r .ssi)) (rowsOf s)) 256
     asks-7 =
         let few : s .«n_rows» ≤ 256 = range-tells s ok .head .rows in
         row-for r s (length-take-le (s .«n_rows») (s .«link_send_seq») (omega (arith, long .rows))) few

@@ -6,12 +6,13 @@ use mathlib.Core.Bool.{Bool, true, false, cond, not, _&&_, _||_}
 use mathlib.Core.List.{List, [], _∷_, _++_}
 use borrow.Author.Tests.{leb-true, ltb-true, ltb-false}
 use lib.Dec.{eqb, leb, ltb}
-use lib.ListN.{length, getD, set, length-take, List·getD-eq-default}
+use lib.ListN.{length, getD, set, length-take}
 use lib.Seq.{length-take-le}
 use Rattle.lists.specs.Lists.{find, others}
 use Rattle.lists.specs.Arrays.{position, without, placed}
 use Rattle.lists.proofs.Arrays.{found-at, found-none, others-without}
 use Rattle.lists.proofs.Choices.{both, by-test}
+use Rattle.lists.proofs.Tables.{first-at, filed-at}
 use Rattle.questions.specs.Outcome.{accepted}
 use Rattle.bits.specs.Bits.{splice}
 use Rattle.llc_pdus.specs.declared.Pdu.{Pdu}
@@ -35,13 +36,12 @@ use Rattle.llc_state.specs.declared.State.{State}
 use Rattle.llc_state.proofs.InRange.{range-tells}
 use Rattle.llc_state.proofs.Lengths.{Lengths}
 use Rattle.llc_steps.specs.Answers.{effect, answer, laidOut, WithAnyOut}
-use Rattle.llc_steps.specs.Calls.{entryOf, carrierFor, ackFor, seqOf, withSeq, dataPdu, withAcknowledged, withUnacknowledged}
+use Rattle.llc_steps.specs.Calls.{entryOf, carrierFor, ackFor, seqOf, withSeq, dataPdu, withAcknowledged, withUnacknowledged, rowOf, newSeq}
 use Rattle.llc_steps.specs.Places.{freePlace}
 use Rattle.llc_steps.specs.States.{messagesOf, udataOf, acksOf, rowsOf, withMessages, withUdata, withAcks, withRows, Kept}
 use Rattle.llc_steps.specs.declared.Answer.{Answer}
 use Rattle.llc_steps.proofs.Places.{free-place}
-use Rattle.llc_queues.specs.Queues.{ackOn, rowOf}
-use Rattle.llc_queues.proofs.Search.{seq-at, seq-none, with-seq}
+use Rattle.llc_queues.specs.Queues.{ackOn}
 
 -- What question 5 tells of a request.
 pub record Allowed (q : RequestCall) : Type 0 where
@@ -76,22 +76,16 @@ place-below s h =
     let us = length-take (s .«n_udata») (s .«outbound_udata_messages») in
     free-place s (omega arith) .0
 
--- The bit at the place of an SSI's row is the SSI's bit.
+-- The bit at the place of an SSI's row is the SSI's bit; another bit in the row's place.
 seq-is : (a : ℕ) (rs : List LinkSendSeq) → getD rs (position (rowOf a) rs) noRow .vs ≡ seqOf a rs
-seq-is a rs =
-    by-test (ltb (position (rowOf a) rs) (length rs))
-    (λ t. sym (seq-at a rs noRow (ltb-true (position (rowOf a) rs) (length rs) t)))
-    (λ f.
-    let out : length rs ≤ position (rowOf a) rs = ltb-false (position (rowOf a) rs) (length rs) f in
-    ap (λ (w : LinkSendSeq). w .vs) (List·getD-eq-default rs noRow out) ∙ sym (seq-none a rs out))
+seq-is a rs = sym (first-at (λ (w : LinkSendSeq). w .vs) (rowOf a) (newSeq a) noRow rs refl)
 
--- Another bit in the row's place.
 rows-with :
     (a : ℕ) (rs : List LinkSendSeq) {row : ℕ} {bit seq : Bool}
     → row ≡ position (rowOf a) rs
     → bit ≡ seq
     → placed (record { ssi = a; vs = bit }) row rs ≡ withSeq a seq rs
-rows-with a rs {row} {bit} {seq} e f = rw (e, f) (sym (with-seq a seq rs))
+rows-with a rs {row} {bit} {seq} e f = rw (e, f) (sym (filed-at (rowOf a) (record { ssi = a; vs = seq }) rs))
 
 -- The header by the place of the acknowledgement due.
 pdu-by :

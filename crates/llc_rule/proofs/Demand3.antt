@@ -5,7 +5,7 @@ use mathlib.Core.Path.{_≡_, _∙_, refl, sym, ap, ap₂}
 use mathlib.Core.Bool.{true, false, cond, not, _&&_, _||_, false≢true}
 use mathlib.Core.List.{List, [], _∷_, _++_, map, map-append, append-nil}
 use mathlib.Core.Option.{Option, none, some}
-use Rattle.lists.specs.Lists.{keep, all, among}
+use Rattle.lists.specs.Lists.{keep, all, among, firstOr}
 use Rattle.lists.proofs.Choices.{by-test, either, both}
 use Rattle.questions.specs.Outcome.{Outcome, accepted, refused, number}
 use Rattle.llc_rule.specs.Calls.{Call, isStart, parsed}
@@ -13,7 +13,7 @@ use Rattle.llc_rule.specs.Ranges.{inRange}
 use Rattle.llc_rule.specs.Records.{Record}
 use Rattle.llc_rule.specs.Messages.{Place, free, placeAt, isFree, noReceipts}
 use Rattle.llc_rule.specs.Done.{Done}
-use Rattle.llc_rule.specs.Link.{Link, new, bitOf}
+use Rattle.llc_rule.specs.Link.{Link, new}
 use Rattle.llc_rule.specs.Step.{called, step}
 use Rattle.llc_rule.specs.Rule.{Own, atFirst, judged, rule}
 use Rattle.llc_rule.specs.Runs.{left, given, Exchange, exchange, run, after}
@@ -212,7 +212,7 @@ held-taken a h i (p ∷ ps) f =
 
 -- At first an address has nothing.
 seen-new : (a : ℕ) → Seen a nothingYet new
-unfolding own new atFirst noReceipts bitOf keep blankFrom nothingYet ruleSights ruleRun ruleAfter
+unfolding own new atFirst noReceipts firstOr keep blankFrom nothingYet ruleSights ruleRun ruleAfter
 seen-new a = record { seen = refl; has = refl; alone = refl }
 
 seen-run : (a : ℕ) (cs : List (List ℕ)) → unhindered (run new cs) ≡ true → Seen a (history nothingYet (run new cs)) (after new cs)

@@ -12,13 +12,14 @@ use lib.Seq.{ext-getD}
 use Rattle.lists.specs.Lists.{keep, any, Found, nothing, first, behind, find, others, All}
 use Rattle.lists.proofs.Lists.{keep-yes, keep-no, keep-append, find-by, TakenOut, found-out}
 use Rattle.lists.proofs.Choices.{by-test, clash}
+use Rattle.lists.proofs.Tables.{first-filed, first-beside}
 use Rattle.questions.specs.Outcome.{Outcome, accepted, refused}
 use Rattle.tdma_time.specs.declared.TdmaTime.{TdmaTime}
 use Rattle.tx_receipt.specs.Marks.{Mark}
 use Rattle.llc_rule.specs.Records.{Record, ssiOf, Sent}
 use Rattle.llc_rule.specs.Messages.{Message, Due, Place, free, placeAt, mark}
 use Rattle.llc_rule.specs.Done.{Done, done}
-use Rattle.llc_rule.specs.Link.{Link, Row, bitOf, withBit}
+use Rattle.llc_rule.specs.Link.{Link, Row, bitOf, withBit, isRowOf, newRow}
 use Rattle.llc_rule.specs.Rule.{Own, keepingBit, keepingAcknowledged, keepingUnacknowledged, keepingDue, keepingReceipts}
 use Rattle.llc_rule.specs.Past.{Holders, holding, isHolder}
 use Rattle.llc_rule.specs.Sound.{ofAddress}
@@ -168,18 +169,15 @@ blank-set-other a h i who p ps lt e was =
 -- Rows ------------------------------------------------------------------------------------------------------------------------
 
 pub bit-own : (a : ℕ) (b : Bool) (rs : List Row) → bitOf a (withBit a b rs) ≡ b
-unfolding bitOf withBit
-bit-own a b [] = rw (eq-eqb a a refl)
-bit-own a b (r ∷ rs) =
-    by-test (eqb (r .ssi) a) (λ e. rw (e, eq-eqb a a refl)) (λ e. rw e (rw e (bit-own a b rs)))
+bit-own a b rs =
+    ap (λ (w : Row). w .bit) (first-filed (isRowOf a) (newRow a) (record { ssi = a; bit = b }) rs (eq-eqb a a refl))
 
 pub bit-other : (a c : ℕ) (b : Bool) (rs : List Row) → eqb c a ≡ false → bitOf a (withBit c b rs) ≡ bitOf a rs
-unfolding bitOf withBit
-bit-other a c b [] e = rw e
-bit-other a c b (r ∷ rs) e =
-    by-test (eqb (r .ssi) c)
-    (λ t. rw (t, eqb-true (r .ssi) c t, e))
-    (λ t. rw t (by-test (eqb (r .ssi) a) (λ u. rw u) (λ u. rw u (bit-other a c b rs e))))
+bit-other a c b rs e =
+    ap (λ (w : Row). w .bit)
+    (first-beside (isRowOf c) (isRowOf a) (newRow a) (record { ssi = c; bit = b }) rs
+    (λ w t. rw (eqb-true (w .ssi) c t) e)
+    (eq-eqb c c refl))
 
 -- Queues ----------------------------------------------------------------------------------------------------------------------
 

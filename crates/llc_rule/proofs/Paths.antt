@@ -134,7 +134,7 @@ received-asked b = checked-asked b (reading b) (reading-asked b)
 pub record Acknowledged (r : Request) (l : Link) : Type 0 where
   pub range : requestInRange r ≡ true
   pub free : receiptFree r l ≡ true
-  pub row : rowFor r l ≡ true
+  pub row : rowFor (r .ssi) l ≡ true
   pub place : acknowledgedPlace l ≡ true
 
 -- And among the unacknowledged ones: link id 0 or its own, and a due acknowledgement that it uses up or none.
@@ -216,7 +216,7 @@ module _ (l : Link) (P : Call → Link → List Record → Type 0) (paths : Path
       by-question Q 6 (receiptFree r l) (if-refused 6 refl) λ fr.
       by-choice Q (onAcknowledgedPath r)
       (λ path.
-      by-question Q 7 (rowFor r l) (if-refused 7 refl) λ row.
+      by-question Q 7 (rowFor (r .ssi) l) (if-refused 7 refl) λ row.
       by-question Q 8 (acknowledgedPlace l) (if-refused 8 refl) λ place.
       if-accepted _ (paths .acknowledged r (record { range = range; free = fr; row = row; place = place })))
       (λ path.

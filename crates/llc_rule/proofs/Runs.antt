@@ -13,7 +13,7 @@ use Prim.Native.Nat.{ℕ, zero, suc}
 use mathlib.Core.Bool.{Bool, true, false, _&&_}
 use mathlib.Core.List.{List, [], _∷_, _++_, map}
 use lib.Dec.{eqb}
-use Rattle.lists.specs.Lists.{any, find, walk}
+use Rattle.lists.specs.Lists.{any, find, walk, firstOr, filed}
 use Rattle.bits.specs.Bits.{toBits, value, bits}
 use Rattle.tdma_time.specs.Modulo.{modulo}
 use Rattle.tdma_time.specs.Slots.{slots, timeAt, plus as plusSlots, centred, minus, valid}
@@ -26,7 +26,7 @@ use Rattle.llc_rule.specs.Records.{Record, packed, counted, masked, coun
 use Rattle.llc_rule.specs.Ranges.{requestInRange, frameInRange, inRange}
 use Rattle.llc_rule.specs.Received.{checks, checked, received, upward}
 use Rattle.llc_rule.specs.Messages.{noReceipts, overdue, slotBefore, replyTo, sentOf}
-use Rattle.llc_rule.specs.Link.{Link, new, startedWith, bitOf, withBit}
+use Rattle.llc_rule.specs.Link.{Link, new, startedWith}
 use Rattle.llc_rule.specs.Step.{dueFor, rowFor, withAcknowledged, withUnacknowledged, withStolen, onData, onUnitdata, awaiting, answeredBy, onReceived, onFrame, held, waits, onReport, onRelease, retransmission, firstSending, retransmissions, firstSendings, onTickEnd, act, called, step}
 use Rattle.llc_rule.specs.Runs.{Exchange, run, after}
 
@@ -77,7 +77,7 @@ spell (x ∷ xs) (r ∷ rs) = same x (bytes r) && spell xs rs
 unfoldable pub exchanges : Link → List Told → List Exchange
 unfolding toBits value bits plus divisor rest start fcs reading modulo slots timeAt plusSlots centred minus valid any find
     walk fromBytes toBytes filledFrom requestIn frameIn tagOf inner filled parsed requestInRange frameInRange inRange checks
-    checked received upward overdue slotBefore replyTo frameBits sentOf noReceipts new startedWith bitOf withBit dueFor rowFor
+    checked received upward overdue slotBefore replyTo frameBits sentOf noReceipts new startedWith firstOr filed dueFor rowFor
     withAcknowledged withUnacknowledged withStolen onData onUnitdata awaiting answeredBy onReceived onFrame held waits
     onReport onRelease retransmission firstSending retransmissions firstSendings onTickEnd act called step run
 exchanges l ts = run l (map (λ (t : Told). t .call) ts)

@@ -6,7 +6,7 @@ use mathlib.Core.List.{List, []}
 use mathlib.Core.Option.{Option, none, some}
 use borrow.Author.Tests.{eqb-true, ltb-true}
 use lib.ListN.{length}
-use Rattle.lists.specs.Lists.{keep, any, among}
+use Rattle.lists.specs.Lists.{keep, any, among, firstOr}
 use Rattle.lists.proofs.Choices.{by-test, both, clash}
 use Rattle.questions.specs.Outcome.{Outcome, accepted, refused, ask, number}
 use Rattle.questions.proofs.Asked.{by-question}
@@ -17,7 +17,7 @@ use Rattle.llc_rule.specs.Records.{Record}
 use Rattle.llc_rule.specs.Received.{Received, received, nsOf}
 use Rattle.llc_rule.specs.Done.{done}
 use Rattle.llc_rule.specs.Messages.{noReceipts, markOf}
-use Rattle.llc_rule.specs.Link.{Link, startedWith, bitOf}
+use Rattle.llc_rule.specs.Link.{Link, startedWith}
 use Rattle.llc_rule.specs.Step.{receiptFree, rowFor, acknowledgedPlace, unacknowledgedPlace, onAcknowledgedPath, withUnacknowledged, dueRoom, onData, onUnitdata, onReceived, onFrame, act}
 use Rattle.llc_rule.specs.Rule.{Own, afterStart, afterData, afterUnitdata, afterReceived, afterFrame, does}
 use Rattle.llc_rule.specs.Past.{aboutCall, Holders, nobody, holding, isHolder, heldAfter, holder's, whoseOf, concerns, isTickEnd}
@@ -48,7 +48,7 @@ data-accepted r l u =
     rw (six .0)
     (by-test (onAcknowledgedPath r)
     (λ e.
-    let seven = passed 7 (rowFor r l) _ refl (rw e at (six .1)) in
+    let seven = passed 7 (rowFor (r .ssi) l) _ refl (rw e at (six .1)) in
     let eight = passed 8 (acknowledgedPlace l) _ refl (seven .1) in
     rw (e, seven .0, eight .0))
     (λ e. let eight = passed 8 (unacknowledgedPlace l) _ refl (rw e at (six .1)) in rw (e, eight .0)))
@@ -69,7 +69,7 @@ abbrev pub showing : ℕ → Call → List Record → List Record
 showing a c rs = cond (isTickEnd (accepted c)) (keep (ofSsi a) rs) rs
 
 start-own : (a carrier t251 : ℕ) → afterStart carrier t251 ≡ own a nobody (startedWith carrier t251)
-unfolding afterStart own startedWith noReceipts bitOf keep blankFrom
+unfolding afterStart own startedWith noReceipts firstOr keep blankFrom
 start-own a carrier t251 = refl
 
 data-call :

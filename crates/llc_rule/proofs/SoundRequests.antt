@@ -1,8 +1,8 @@
 -- A request that is accepted keeps the invariant: its message is put last, with a receipt that was free.
-use Prim.Native.Nat.{ℕ, suc, _+_, _≤_, _<_}
+use Prim.Native.Nat.{ℕ, _+_, _≤_, _<_}
 use native.Mathlib.Omega.{arith}
 use mathlib.Core.Path.{_≡_, _∙_, refl}
-use mathlib.Core.Bool.{Bool, true, false, cond, not, and-false}
+use mathlib.Core.Bool.{Bool, true, false, not, and-false}
 use mathlib.Core.List.{List, [], _∷_, _++_}
 use mathlib.Core.Option.{Option, some}
 use borrow.Author.Tests.{eqb-true, eq-eqb, ltb-true}
@@ -12,12 +12,13 @@ use lib.Seq.{getD-set-same}
 use Rattle.lists.specs.Lists.{keep, any, Found, nothing, first, others, All}
 use Rattle.lists.proofs.Lists.{keep-append, all-append, all-map, find-by, TakenOut, found-out, count-append, none-passes}
 use Rattle.lists.proofs.Choices.{by-test, clash}
+use Rattle.lists.proofs.Tables.{length-filed}
 use Rattle.llc_pdus.specs.declared.Pdu.{Pdu}
 use Rattle.llc_rule.specs.Calls.{Request}
 use Rattle.llc_rule.specs.Ranges.{requestInRange}
 use Rattle.llc_rule.specs.Records.{Sent}
 use Rattle.llc_rule.specs.Messages.{Message, waiting, Due, Place, free, pending, placeAt, isFree, carrierOf, sentOf}
-use Rattle.llc_rule.specs.Link.{Link, Row, acknowledgedNow, unacknowledgedNow, dueNow, withReceipts, withRows, bitOf, withBit}
+use Rattle.llc_rule.specs.Link.{Link, Row, acknowledgedNow, unacknowledgedNow, dueNow, withReceipts, withRows, bitOf, withBit, isRowOf, withRow}
 use Rattle.llc_rule.specs.Step.{isDueFor, dueFor, rowFor, dataPdu, withAcknowledged, withUnacknowledged}
 use Rattle.llc_rule.specs.Past.{Holders, holding}
 use Rattle.llc_rule.specs.Sound.{Owned, IsPending, Expects, Waiting, acknowledgedWith, unacknowledgedWith, ofAddress, Sound}
@@ -212,28 +213,16 @@ sound-unacknowledged h l t ds b f room roomDue s =
 
 -- Rows and due acknowledgements -------------------------------------------------------------------------------------------
 
--- A bit is written in the address's row, or in one more.
-length-withBit :
-    (a : ℕ) (b : Bool) (rs : List Row)
-    → length (withBit a b rs) ≡ cond (any (λ (w : Row). eqb (w .ssi) a) rs) (length rs) (suc (length rs))
-unfolding withBit any
-length-withBit a b [] = refl
-length-withBit a b (r ∷ rs) =
-    by-test (eqb (r .ssi) a)
-    (λ e. rw e)
-    (λ e.
-    rw (e, length-withBit a b rs)
-    (by-test (any (λ (w : Row). eqb (w .ssi) a) rs) (λ q. rw q) (λ q. rw q)))
-
+-- A row is written in the place of the address's row, or is one more.
 rows-within :
-    (r : Request) (l : Link) (b : Bool)
-    → rowFor r l ≡ true
+    (l : Link) (w : Row)
+    → rowFor (w .ssi) l ≡ true
     → length (l .rows) ≤ 256
-    → length (withBit (r .ssi) b (l .rows)) ≤ 256
+    → length (withRow w (l .rows)) ≤ 256
 unfolding rowFor
-rows-within r l b e h =
-    rw (length-withBit (r .ssi) b (l .rows))
-    (by-test (any (λ (w : Row). eqb (w .ssi) (r .ssi)) (l .rows))
+rows-within l w e h =
+    rw (length-filed (isRowOf (w .ssi)) w (l .rows))
+    (by-test (any (isRowOf (w .ssi)) (l .rows))
     (λ q. rw q h)
     (λ q. rw q (ltb-true (length (l .rows)) 256 (rw q at e))))
 
@@ -270,7 +259,7 @@ sound-with-acknowledged h l r a s =
     (a .free)
     (ltb-true (length (l .acknowledged)) 64 (a .place))
     (omega (arith, due-within r l, s .limits .due))
-    (rows-within r l _ (a .row) (s .limits .rows))
+    (rows-within l (record { ssi = r .ssi; bit = not (bitOf (r .ssi) (l .rows)) }) (a .row) (s .limits .rows))
     s
 
 pub sound-with-unacknowledged :

@@ -1,9 +1,10 @@
 -- The link as lists: one queue of acknowledged messages, one of unacknowledged ones, due acknowledgements, receipts and rows,
 -- shared by all addresses.
 use Prim.Native.Nat.{ℕ}
-use mathlib.Core.Bool.{Bool, true, false, cond}
-use mathlib.Core.List.{List, [], _∷_}
+use mathlib.Core.Bool.{Bool, true, false}
+use mathlib.Core.List.{List, []}
 use lib.Dec.{eqb}
+use Rattle.lists.specs.Lists.{firstOr, filed}
 use Rattle.tdma_time.specs.Slots.{first}
 use Rattle.tdma_time.specs.declared.TdmaTime.{TdmaTime}
 use Rattle.llc_rule.specs.Records.{Sent}
@@ -140,12 +141,23 @@ withRows l rs =
       rows = rs;
     }
 
--- The bit of an address: "first 0".
-unfoldable pub bitOf : ℕ → List Row → Bool
-bitOf a [] = false
-bitOf a (r ∷ rs) = cond (eqb (r .ssi) a) (r .bit) (bitOf a rs)
+-- The row of an address, and as it is before the address has one: its bit is "first 0".
+abbrev pub isRowOf : ℕ → Row → Bool
+isRowOf a w = eqb (w .ssi) a
 
--- The rows with another bit for an address, in a row behind the others if it had none.
-unfoldable pub withBit : ℕ → Bool → List Row → List Row
-withBit a b [] = record { ssi = a; bit = b } ∷ []
-withBit a b (r ∷ rs) = cond (eqb (r .ssi) a) (record { ssi = a; bit = b } ∷ rs) (r ∷ withBit a b rs)
+abbrev pub newRow : ℕ → Row
+newRow a = record { ssi = a; bit = false }
+
+abbrev pub rowAt : ℕ → List Row → Row
+rowAt a rs = firstOr (isRowOf a) (newRow a) rs
+
+-- The rows with another row for its address, behind the others if it had none.
+abbrev pub withRow : Row → List Row → List Row
+withRow w rs = filed (isRowOf (w .ssi)) w rs
+
+-- The bit of an address, and the rows with another.
+abbrev pub bitOf : ℕ → List Row → Bool
+bitOf a rs = rowAt a rs .bit
+
+abbrev pub withBit : ℕ → Bool → List Row → List Row
+withBit a b rs = withRow (record { ssi = a; bit = b }) rs

@@ -20,7 +20,7 @@ use Rattle.llc_rule.specs.Records.{Record, acknowledged, unacknowledged,
 use Rattle.llc_rule.specs.Received.{Received, received, nsOf, nrOf, upward}
 use Rattle.llc_rule.specs.Messages.{Message, waiting, submittedAfter, doneAt, hasTime, overdue, Due, slotBefore, replyTo, Place, free, placeAt, isFree, pending, taken?, mark, markOf, reported, carrierOf, sentOf}
 use Rattle.llc_rule.specs.Done.{Done, done}
-use Rattle.llc_rule.specs.Link.{Link, Row, startedWith, withTime, acknowledgedNow, unacknowledgedNow, dueNow, withReceipts, withRows, bitOf, withBit}
+use Rattle.llc_rule.specs.Link.{Link, startedWith, withTime, acknowledgedNow, unacknowledgedNow, dueNow, withReceipts, withRows, bitOf, withBit, isRowOf}
 
 -- Requests ----------------------------------------------------------------------------------------------------------------
 
@@ -40,8 +40,8 @@ abbrev pub receiptFree : Request → Link → Bool
 receiptFree r l = isFree (placeAt (l .receipts) (r .receipt))
 
 -- "7. Acknowledged path: has its SSI a row, or is a row free?" Of 256.
-unfoldable pub rowFor : Request → Link → Bool
-rowFor r l = any (λ (w : Row). eqb (w .ssi) (r .ssi)) (l .rows) || ltb (length (l .rows)) 256
+unfoldable pub rowFor : ℕ → Link → Bool
+rowFor a l = any (isRowOf a) (l .rows) || ltb (length (l .rows)) 256
 
 -- "8. Is there a place in its queue?" 64 acknowledged messages, 32 unacknowledged.
 abbrev pub acknowledgedPlace : Link → Bool
@@ -83,7 +83,7 @@ unfoldable pub onData : Request → Link → Outcome (Done Link)
 onData r l =
     ask 6 (receiptFree r l)
     (cond (onAcknowledgedPath r)
-    (ask 7 (rowFor r l) (ask 8 (acknowledgedPlace l) (accepted (done (withAcknowledged r l) []))))
+    (ask 7 (rowFor (r .ssi) l) (ask 8 (acknowledgedPlace l) (accepted (done (withAcknowledged r l) []))))
     (ask 8 (unacknowledgedPlace l)
     (accepted (done (cond (steals r) (withStolen r l (dueFor r l)) (withStolen r l nothing)) []))))
 

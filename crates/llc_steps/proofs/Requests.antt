@@ -10,7 +10,8 @@ use lib.ListN.{length, set, replicate, length-map}
 use lib.Seq.{take-append-seam}
 use Rattle.lists.specs.Lists.{Found, nothing, first, others, All}
 use Rattle.lists.proofs.Lists.{all-map}
-use Rattle.lists.proofs.Choices.{by-test, ap-cond}
+use Rattle.lists.proofs.Choices.{by-test}
+use Rattle.lists.proofs.Tables.{first-viewed, filed-viewed}
 use Rattle.questions.specs.Outcome.{accepted}
 use Rattle.bits.specs.Bits.{splice}
 use Rattle.llc_pdus.specs.Writes.{longest, frameBits}
@@ -39,7 +40,7 @@ use Rattle.llc_state.proofs.Maps.{map-append, mapFound, find-map, any-map, othe
 use Rattle.llc_state.proofs.Places.{place-in, take-receipt-in}
 use Rattle.llc_steps.specs.States.{messagesOf, udataOf, acksOf, rowsOf, withMessages, withUdata, withAcks}
 use Rattle.llc_steps.specs.Places.{freePlace}
-use Rattle.llc_steps.specs.Calls.{entryOf, carrierFor, ackFor, seqOf, withSeq, dataPdu, withAcknowledged, withUnacknowledged, withStolen, receiptFree, rowFor, onData, onUnitdata, onRequest}
+use Rattle.llc_steps.specs.Calls.{entryOf, carrierFor, ackFor, seqOf, withSeq, dataPdu, withAcknowledged, withUnacknowledged, withStolen, receiptFree, rowFor, onData, onUnitdata, onRequest, rowOf, newSeq}
 use Rattle.llc_steps.specs.Holds.{keptIn, Stored, Ready}
 use Rattle.llc_steps.proofs.Setters.{messages-in, udata-in, acks-in, rows-in}
 use Rattle.llc_steps.proofs.Places.{free-place, part-there, frame-elsewhere}
@@ -47,16 +48,12 @@ use Rattle.llc_steps.proofs.Calls.{kept-ask}
 
 -- Rows.
 seq-in : (a : ℕ) (rs : List LinkSendSeq) → Link.bitOf a (map rowIn rs) ≡ seqOf a rs
-unfolding Link.bitOf seqOf rowIn
-seq-in a [] = refl
-seq-in a (r ∷ rs) = ap (cond (eqb (r .ssi) a) (r .vs)) (seq-in a rs)
+unfolding rowIn
+seq-in a rs = ap (λ (w : Link.Row). w .bit) (first-viewed rowIn (rowOf a) (Link.isRowOf a) (λ r. refl) (newSeq a) rs)
 
 with-seq-in : (a : ℕ) (b : Bool) (rs : List LinkSendSeq) → map rowIn (withSeq a b rs) ≡ Link.withBit a b (map rowIn rs)
-unfolding Link.withBit withSeq rowIn
-with-seq-in a b [] = refl
-with-seq-in a b (r ∷ rs) =
-    ap-cond (map rowIn) (eqb (r .ssi) a) (record { ssi = a; vs = b } ∷ rs) (r ∷ withSeq a b rs)
-    ∙ ap (λ (t : List Link.Row). cond (eqb (r .ssi) a) (record { ssi = a; bit = b } ∷ map rowIn rs) (rowIn r ∷ t)) (with-seq-in a b rs)
+unfolding rowIn
+with-seq-in a b rs = sym (filed-viewed rowIn (rowOf a) (Link.isRowOf a) (λ r. refl) (record { ssi = a; vs = b }) rs)
 
 -- Receipts.
 free-by : (p : ReceiptPlace) → not (p .taken) ≡ Rule.isFree (placeIn p)
@@ -220,7 +217,7 @@ module _ (r : Request) (s : State) (store : List ℕ) (ok : Ready s store) (bloc
       let p : ReceiptPlace = placeOf (s .receipts) (r .receipt) in
       free-by p ∙ ap Rule.isFree (sym (place-in (s .receipts) (r .receipt)))
 
-  row-in : rowFor r s ≡ Step.rowFor r (linkIn s store)
+  row-in : rowFor (r .ssi) s ≡ Step.rowFor (r .ssi) (linkIn s store)
   unfolding rowFor Step.rowFor linkIn rowIn
   row-in =
       ap₂ _||_

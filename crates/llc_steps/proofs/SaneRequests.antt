@@ -1,15 +1,16 @@
 -- What a request leaves of a state and a store that passed question 1 passes it.
-use Prim.Native.Nat.{ℕ, suc, _+_, _≤_, _<_}
+use Prim.Native.Nat.{ℕ, _+_, _≤_, _<_}
 use native.Mathlib.Omega.{arith}
 use mathlib.Core.Path.{_≡_, _∙_}
-use mathlib.Core.Bool.{Bool, true, false, not, false≢true}
-use mathlib.Core.List.{List, [], _∷_}
+use mathlib.Core.Bool.{Bool, true, false, not}
+use mathlib.Core.List.{List}
 use borrow.Author.Tests.{ltb-true, lt-ltb}
-use lib.Dec.{eqb, ltb}
+use lib.Dec.{ltb}
 use lib.ListN.{length}
-use Rattle.lists.specs.Lists.{any, Found, nothing, first, others, All}
+use Rattle.lists.specs.Lists.{any, Found, nothing, first, others}
 use Rattle.lists.proofs.Lists.{find-by}
-use Rattle.lists.proofs.Choices.{by-test, by-choice, either}
+use Rattle.lists.proofs.Choices.{by-test, either}
+use Rattle.lists.proofs.Tables.{length-filed, all-filed}
 use Rattle.questions.specs.Outcome.{accepted}
 use Rattle.questions.proofs.Asked.{by-question}
 use Rattle.bits.specs.Bits.{splice}
@@ -32,42 +33,10 @@ use Rattle.llc_state.specs.declared.State.{State}
 use Rattle.llc_state.proofs.InRange.{there-holds, new-fits, message-holds, udata-holds}
 use Rattle.llc_steps.specs.States.{messagesOf, udataOf, acksOf, rowsOf, Kept}
 use Rattle.llc_steps.specs.Places.{freePlace}
-use Rattle.llc_steps.specs.Calls.{entryOf, carrierFor, ackFor, seqOf, withSeq, dataPdu, withAcknowledged, withUnacknowledged, withStolen, receiptFree, rowFor, onData, onUnitdata, onRequest}
+use Rattle.llc_steps.specs.Calls.{entryOf, carrierFor, ackFor, seqOf, withSeq, dataPdu, withAcknowledged, withUnacknowledged, withStolen, receiptFree, rowFor, onData, onUnitdata, onRequest, rowOf}
 use Rattle.llc_steps.specs.Sane.{Sane, SaneAfter}
 use Rattle.llc_steps.proofs.Places.{free-place}
 use Rattle.llc_steps.proofs.SaneSetters.{places-full, pending-full, Used, one-more, others-used, sane-ready, messages-used, udata-used, acks-used, rows-used, store-sane, messages-sane, udata-sane, acks-sane, places-sane, rows-sane}
-
--- Rows: one is set, or put last where an SSI has none.
-with-seq-in-range :
-    (a : ℕ) (b : Bool) (rs : List LinkSendSeq)
-    → a < 16777216
-    → All (λ (r : LinkSendSeq). rowInRange r ≡ true) rs
-    → All (λ (r : LinkSendSeq). rowInRange r ≡ true) (withSeq a b rs)
-unfolding withSeq rowInRange
-with-seq-in-range a b [] h w = (lt-ltb a 16777216 h, tt)
-with-seq-in-range a b (r ∷ rs) h w =
-    either (All (λ (r : LinkSendSeq). rowInRange r ≡ true)) (eqb (r .ssi) a)
-    (lt-ltb a 16777216 h, w .1)
-    (w .0, with-seq-in-range a b rs h (w .1))
-
-length-with-seq : (a : ℕ) (b : Bool) (rs : List LinkSendSeq) → length (withSeq a b rs) ≤ suc (length rs)
-unfolding withSeq
-length-with-seq a b [] = omega arith
-length-with-seq a b (r ∷ rs) =
-    either (λ (t : List LinkSendSeq). length t ≤ suc (suc (length rs))) (eqb (r .ssi) a)
-    (omega arith)
-    (omega (arith, length-with-seq a b rs))
-
-length-with-seq-there :
-    (a : ℕ) (b : Bool) (rs : List LinkSendSeq)
-    → any (λ (r : LinkSendSeq). eqb (r .ssi) a) rs ≡ true
-    → length (withSeq a b rs) ≤ length rs
-unfolding withSeq any
-length-with-seq-there a b [] h = absurd (false≢true h)
-length-with-seq-there a b (r ∷ rs) h =
-    by-choice (λ (t : List LinkSendSeq). length t ≤ suc (length rs)) (eqb (r .ssi) a)
-    (λ t. omega arith)
-    (λ f. omega (arith, length-with-seq-there a b rs (rw f at h)))
 
 module _ (r : Request) (s : State) (store : List ℕ) (ok : Sane s store) (ssi : r .ssi < 16777216) (h : requestInRange r ≡ true) where
   -- The new entry is in range, and its frame lies within the store.
@@ -126,21 +95,24 @@ module _ (r : Request) (s : State) (store : List ℕ) (ok : Sane s store) (ssi :
   unfolding ackFor
   acks-but = others-used ackInRange 64 _ (acksOf s) (ackFor r s) (find-by _ (acksOf s)) (acks-used s store ok)
 
-  rows-then : (b : Bool) → rowFor r s ≡ true → Used rowInRange 256 (withSeq (r .ssi) b (rowsOf s))
-  unfolding rowFor
+  rows-then : (b : Bool) → rowFor (r .ssi) s ≡ true → Used rowInRange 256 (withSeq (r .ssi) b (rowsOf s))
+  unfolding rowFor rowInRange
   rows-then b row =
       let w = rows-used s store ok in
       let n = sane-ready s store ok .counted in
+      let more = length-filed (rowOf (r .ssi)) (record { ssi = r .ssi; vs = b }) (rowsOf s) in
       record {
         few =
-            by-test (any (λ (w : LinkSendSeq). eqb (w .ssi) (r .ssi)) (rowsOf s))
-            (λ t. omega (arith, w .few, length-with-seq-there (r .ssi) b (rowsOf s) t))
-            (λ f. omega (arith, ltb-true (s .«n_rows») 256 (rw f at row), length-with-seq (r .ssi) b (rowsOf s), n .rows));
-        each = with-seq-in-range (r .ssi) b (rowsOf s) ssi (w .each);
+            by-test (any (rowOf (r .ssi)) (rowsOf s))
+            (λ t. omega (arith, w .few, rw t at more))
+            (λ f. omega (arith, ltb-true (s .«n_rows») 256 (rw f at row), rw f at more, n .rows));
+        each =
+            all-filed (λ (x : LinkSendSeq). rowInRange x ≡ true) (rowOf (r .ssi)) (record { ssi = r .ssi; vs = b }) (rowsOf s)
+            (lt-ltb (r .ssi) 16777216 ssi) (w .each);
       }
 
   -- A message put last, acknowledged or not.
-  acknowledged-sane : rowFor r s ≡ true → ltb (s .«n_messages») 64 ≡ true → SaneAfter (accepted (withAcknowledged r s store))
+  acknowledged-sane : rowFor (r .ssi) s ≡ true → ltb (s .«n_messages») 64 ≡ true → SaneAfter (accepted (withAcknowledged r s store))
   unfolding withAcknowledged
   acknowledged-sane row room =
       let q = sane-ready s store ok in
@@ -196,7 +168,7 @@ module _ (r : Request) (s : State) (store : List ℕ) (ok : Sane s store) (ssi :
       by-question SaneAfter 6 (receiptFree r s) tt
       (λ free.
       either SaneAfter (onAcknowledgedPath r)
-      (by-question SaneAfter 7 (rowFor r s) tt (λ row. by-question SaneAfter 8 (ltb (s .«n_messages») 64) tt (λ room. acknowledged-sane row room)))
+      (by-question SaneAfter 7 (rowFor (r .ssi) s) tt (λ row. by-question SaneAfter 8 (ltb (s .«n_messages») 64) tt (λ room. acknowledged-sane row room)))
       (by-question SaneAfter 8 (ltb (s .«n_udata») 32) tt
       (λ room.
       either (λ (k : Kept). SaneAfter (accepted k)) (steals r)

@@ -6,7 +6,7 @@ use mathlib.Core.Option.{Option, none, some}
 use lib.Dec.{eqb, ltb}
 use lib.ListN.{length, set, replicate}
 use Rattle.lists.specs.Lists as Lists
-use Rattle.lists.specs.Lists.{any, Found, nothing, find, others}
+use Rattle.lists.specs.Lists.{any, Found, nothing, find, others, firstOr, filed}
 use Rattle.questions.specs.Outcome.{Outcome, accepted, refused, ask}
 use Rattle.bits.specs.Bits.{splice}
 use Rattle.tx_receipt.specs.States.{is, final}
@@ -65,14 +65,19 @@ carrierFor r s = carrierOf (s .«main_carrier») r
 unfoldable pub ackFor : Request → State → Found ScheduledOutAck
 ackFor r s = find (λ (d : ScheduledOutAck). eqb (d .ssi) (r .ssi) && eqb (d .«carrier_num») (carrierFor r s)) (acksOf s)
 
--- get_next_send_seq: the bit of an SSI, and the rows with another.
-unfoldable pub seqOf : ℕ → List LinkSendSeq → Bool
-seqOf a [] = false
-seqOf a (r ∷ rs) = cond (eqb (r .ssi) a) (r .vs) (seqOf a rs)
+-- The row of an SSI in link_send_seq, and as it is before the SSI has one.
+abbrev pub rowOf : ℕ → LinkSendSeq → Bool
+rowOf ssi r = eqb (r .ssi) ssi
 
-unfoldable pub withSeq : ℕ → Bool → List LinkSendSeq → List LinkSendSeq
-withSeq a b [] = record { ssi = a; vs = b } ∷ []
-withSeq a b (r ∷ rs) = cond (eqb (r .ssi) a) (record { ssi = a; vs = b } ∷ rs) (r ∷ withSeq a b rs)
+abbrev pub newSeq : ℕ → LinkSendSeq
+newSeq ssi = record { ssi = ssi; vs = false }
+
+-- get_next_send_seq: the bit of an SSI, and the rows with another.
+abbrev pub seqOf : ℕ → List LinkSendSeq → Bool
+seqOf a rs = firstOr (rowOf a) (newSeq a) rs .vs
+
+abbrev pub withSeq : ℕ → Bool → List LinkSendSeq → List LinkSendSeq
+withSeq a b rs = filed (rowOf a) (record { ssi = a; vs = b }) rs
 
 abbrev pub dataPdu : Request → Bool → Found ScheduledOutAck → Pdu
 dataPdu r ns (Lists.first d ds) = BlAdata (wantsFcs r) (d .nr) ns
@@ -112,14 +117,14 @@ withStolen r s b nothing = withUnacknowledged r 0 (BlUdata false) (acksOf s) s b
 abbrev pub receiptFree : Request → State → Bool
 receiptFree r s = not (placeOf (s .receipts) (r .receipt) .taken)
 
-unfoldable pub rowFor : Request → State → Bool
-rowFor r s = any (λ (w : LinkSendSeq). eqb (w .ssi) (r .ssi)) (rowsOf s) || ltb (s .«n_rows») 256
+unfoldable pub rowFor : ℕ → State → Bool
+rowFor a s = any (rowOf a) (rowsOf s) || ltb (s .«n_rows») 256
 
 unfoldable pub onData : Request → State → List ℕ → Outcome Kept
 onData r s b =
     ask 6 (receiptFree r s)
     (cond (onAcknowledgedPath r)
-    (ask 7 (rowFor r s) (ask 8 (ltb (s .«n_messages») 64) (accepted (withAcknowledged r s b))))
+    (ask 7 (rowFor (r .ssi) s) (ask 8 (ltb (s .«n_messages») 64) (accepted (withAcknowledged r s b))))
     (ask 8 (ltb (s .«n_udata») 32)
     (accepted (cond (steals r) (withStolen r s b (ackFor r s)) (withStolen r s b nothing)))))
 

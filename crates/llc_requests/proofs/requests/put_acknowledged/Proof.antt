@@ -8,7 +8,8 @@ use Rattle.llc_calls.specs.Decoded.{requestOf}
 use Rattle.llc_state.specs.declared.State.{State}
 use Rattle.llc_state.proofs.InRange.{range-tells}
 use Rattle.llc_state.proofs.Lengths.{lengths}
-use Rattle.llc_queues.specs.Queues.{ackOn, rowOf}
+use Rattle.llc_steps.specs.Calls.{rowOf}
+use Rattle.llc_queues.specs.Queues.{ackOn}
 use Rattle.llc_requests.proofs.Puts.{allowed, place-below, put-acknowledged}
 use Rattle.llc_requests.proofs.requests.put_acknowledged.Statement.{statement}
 use Rattle.llc_requests.proofs.requests.put_acknowledged.Tie as tie
