@@ -8,7 +8,7 @@ use Rattle.fcs.specs.Polynomials.{plus, divisor, rest}
 use Rattle.fcs.specs.Fcs.{start, fcs}
 use Rattle.llc_pdus.specs.Headers.{reading}
 use Rattle.llc_pdus.specs.Writes.{frameBits}
-use Rattle.llc_rule.specs.Received.{received, checked, checks}
+use Rattle.llc_pdus.specs.Received.{received, checked, checks}
 use Rattle.tdma_time.specs.Modulo.{modulo}
 use Rattle.tdma_time.specs.Slots.{valid, slots, timeAt, plus as plusSlots, centred, minus, ahead, forward}
 use Rattle.examples.specs.Table.{table, sameℤ, same, sameOutcome, right}

@@ -12,7 +12,7 @@ use Rattle.fcs.specs.Answers.{computed}
 use Rattle.llc_pdus.specs.Headers.{header}
 use Rattle.llc_pdus.specs.Writes.{written}
 use Rattle.llc_pdus.specs.declared.Pdu.the-variants.{BlAdata}
-use Rattle.llc_rule.specs.Received.{Received, received}
+use Rattle.llc_pdus.specs.Received.{Received, received}
 use Rattle.tdma_time.specs.Answers.{added, difference, forwarded}
 use Rattle.tdma_time.specs.Slots.{half, first, plus}
 use Rattle.tdma_time.specs.declared.TdmaTime.{TdmaTime}

@@ -44,10 +44,7 @@ pub extern "C" fn leaf_from_bitbuf(frame: &[u8], len: usize) -> FrameAnswer
 {
     match llc_pdus::from_bitbuf(frame, len) {
         Read::Frame(p, s) => to_frame(p, s),
-        Read::TooShort => to_refusal(9),
-        Read::NotBasic => to_refusal(10),
-        Read::NoHeader => to_refusal(11),
-        Read::OutOfRange => to_refusal(5),
+        Read::Refused(number) => to_refusal(number),
     }
 }
 

@@ -37,10 +37,7 @@ pub extern "C" fn leaf_read(frame: &[u8], len: usize) -> u64
 {
     match llc_pdus::from_bitbuf(frame, len) {
         Read::Frame(_, s) => s.first as u64,
-        Read::TooShort => 4_294_967_305,
-        Read::NotBasic => 4_294_967_306,
-        Read::NoHeader => 4_294_967_307,
-        Read::OutOfRange => 4_294_967_301,
+        Read::Refused(number) => 4_294_967_296 + number as u64,
     }
 }
 

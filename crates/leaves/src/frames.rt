@@ -81,8 +81,8 @@ fn write(pdu: Pdu) {
     let mut out = [170u8; 4];
     match llc_pdus::to_bitbuf(pdu, b"\xf3\xc5", 3, 12, &mut out) {
         Written::Bits(n) => back(&out, n),
-        Written::OutOfRange => words(b"refused (5)\n"),
-        Written::NoRoom => words(b"refused (8)\n"),
+        Written::OutOfRange => refused(5),
+        Written::NoRoom => refused(8),
     }
 }
 
@@ -98,11 +98,14 @@ fn read(frame: &[u8], len: usize) {
             name(pdu);
             place(frame, sdu);
         }
-        Read::TooShort => words(b"refused (9)\n"),
-        Read::NotBasic => words(b"refused (10)\n"),
-        Read::NoHeader => words(b"refused (11)\n"),
-        Read::OutOfRange => words(b"refused (5)\n"),
+        Read::Refused(number) => refused(number),
     }
+}
+
+fn refused(by: u8) {
+    words(b"refused (");
+    number(by as u64);
+    words(b")\n");
 }
 
 fn name(pdu: Pdu) {
@@ -159,9 +162,8 @@ fn held(frame: &[u8], sdu: Sdu) {
     let mut number = 0;
     let part = llc_pdus::sdu_bytes(frame, sdu, &mut number);
     if number != 0 {
-        words(b"no bytes: refused (");
-        crate::text::number(number as u64);
-        words(b")\n");
+        words(b"no bytes: ");
+        refused(number);
         return;
     }
     bytes(part);

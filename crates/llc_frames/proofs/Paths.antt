@@ -17,22 +17,25 @@ use Rattle.lists.proofs.Choices.{both}
 use Rattle.questions.specs.Outcome.{Outcome, accepted, refused, ask}
 use Rattle.bits.specs.Bits.{bits, part}
 use Rattle.bits.proofs.Laws.{length-bits, part-take}
+use Rattle.llc_pdus.specs.Answers.{answered as readAs, readFrom}
+use Rattle.llc_pdus.specs.Headers.{nsOf, nrOf}
+use Rattle.llc_pdus.specs.Received.{Received, received}
 use Rattle.llc_pdus.specs.Sdus.{sduAt, holding, handed, Part, numbered, handedBack}
 use Rattle.llc_pdus.specs.declared.Pdu.{Pdu}
+use Rattle.llc_pdus.specs.declared.Read.{Read}
 use Rattle.llc_pdus.specs.declared.Sdu.{Sdu}
 use Rattle.llc_pdus.proofs.Holding.{held-is, handed-in}
+use Rattle.llc_pdus.proofs.Received.{receivedAs, SduIn, SduInside, ReadAs, read-as, lent}
 use Rattle.llc_rule.specs.Limits.{outputBytes}
-use Rattle.llc_rule.specs.Received.{Received, received, nsOf, nrOf, upward}
+use Rattle.llc_rule.specs.Upward.{upward}
 use Rattle.llc_rule.specs.Records.{Record, allBytes}
 use Rattle.llc_calls.specs.Decoded.{frameOf, FrameInside}
 use Rattle.llc_calls.specs.Ranges.{frameRange}
 use Rattle.llc_calls.specs.declared.FrameCall.{FrameCall}
 use Rattle.llc_received.specs.Numbers.{numberIf, nsIn, nrIn}
-use Rattle.llc_received.specs.Reading.{receivedAs, SduIn, SduInside}
 use Rattle.llc_received.specs.Upward.{SduLent}
 use Rattle.llc_received.specs.declared.numbers.SeqNumbers.{SeqNumbers}
-use Rattle.llc_received.specs.declared.reading.Reading.{Reading}
-use Rattle.llc_received.proofs.SentUp.{up-size, frame-small, lent}
+use Rattle.llc_received.proofs.SentUp.{up-size, frame-small}
 use Rattle.llc_state.specs.declared.Entry.{Entry}
 use Rattle.llc_state.specs.declared.ScheduledOutAck.{ScheduledOutAck}
 use Rattle.llc_state.specs.declared.State.{State}
@@ -240,7 +243,7 @@ module _ (s : State) (f : FrameCall) (b : List ℕ) where
   unfolding frameOf
   lent-is = ap (λ (l : List ℕ). take (f .«pdu_len») (bits l)) (lent b (f .pdu))
 
-  read-is : {x y : Reading} → x ≡ y → receivedAs x lentBits ≡ received lentBits → receivedAs y (frameOf f b .pdu) ≡ received (frameOf f b .pdu)
+  read-is : {x y : Read} → x ≡ y → receivedAs x lentBits ≡ received lentBits → receivedAs y (frameOf f b .pdu) ≡ received (frameOf f b .pdu)
   read-is {x} {y} e h =
       sym (ap₂ receivedAs e lent-is) ∙ h ∙ ap received lent-is
 
@@ -251,21 +254,28 @@ module _ (s : State) (f : FrameCall) (b : List ℕ) where
   lent-long : FrameInside f b → f .«pdu_len» ≤ 8 * length lentBytes
   lent-long h = omega (arith, ap length (lent b (f .pdu)) ∙ length-drop (f .pdu) b, h .parts .bitsIn)
 
+  -- What the reader answered of it.
+  abbrev pub ReadHere : Read → Type 0
+  ReadHere x = ReadAs x (bits lentBytes) (f .«pdu_len»)
+
+  pub read-here : {x : Read} → FrameInside f b → readAs x ≡ readFrom (bits lentBytes) (f .«pdu_len») → ReadHere x
+  read-here {x} h e = read-as x (bits lentBytes) (f .«pdu_len») (omega (arith, lent-long h, length-bits lentBytes)) e
+
   pub record Handed (k : ℕ) (l : List ℕ) (t : Sdu) : Type 0 where
     pub zeroth : k ≡ 0
     pub sdu : SduLent l (t .place) (t .len)
     pub same : part (bits l) (t .place) (t .len) ≡ part lentBits (t .first) (t .len)
 
   pub handed-back :
-      {k : ℕ} {l : List ℕ} {x : Reading} {p : Pdu} {t : Sdu}
-      → x ≡ Reading.Frame p t
-      → SduInside x (f .«pdu_len»)
+      {k : ℕ} {l : List ℕ} {x : Read} {p : Pdu} {t : Sdu}
+      → x ≡ Read.Frame p t
+      → ReadHere x
       → frameRange f ≡ true
       → FrameInside f b
       → numbered k l ≡ handedBack (handed lentBytes t)
       → Handed k l t
   handed-back {k} {l} {x} {p} {t} e i range inside h =
-      let known : SduIn t (f .«pdu_len») = subst (λ (y : Reading). SduInside y (f .«pdu_len»)) e i in
+      let known : SduIn t (f .«pdu_len») = subst (λ (y : Read). SduInside y (f .«pdu_len»)) e (i .inside) in
       let long = lent-long inside in
       let is = handed-in lentBytes t (omega (arith, known .inside)) h in
       let bytes : l ≡ holding lentBytes (t .first) (t .len) = ap (λ (q : Part). q .bytes) is in
@@ -285,9 +295,9 @@ module _ (s : State) (f : FrameCall) (b : List ℕ) where
       }
 
   pub of-frame :
-      {r : Answer} {out m : List ℕ} {x : Reading} {p : Pdu} {k : ℕ} {l : List ℕ} {t : Sdu}
-      → x ≡ Reading.Frame p t
-      → receivedAs x lentBits ≡ received lentBits
+      {r : Answer} {out m : List ℕ} {x : Read} {p : Pdu} {k : ℕ} {l : List ℕ} {t : Sdu}
+      → x ≡ Read.Frame p t
+      → ReadHere x
       → Handed k l t
       → WithAnyStore r m s out
       (λ (store : List ℕ). onReceived (frameOf f b) (accepted (record { header = p; sdu = part (bits l) (t .place) (t .len) })) s store)
@@ -295,19 +305,19 @@ module _ (s : State) (f : FrameCall) (b : List ℕ) where
   of-frame {r = r} {out = out} {m = m} {p = p} e h q w =
       subst (λ (o : Outcome Received). WithAnyStore r m s out (λ (store : List ℕ). onReceived (frameOf f b) o s store))
       (ap (λ (y : List ℕ). accepted (record { header = p; sdu = y })) (q .same)
-      ∙ sym (ap (λ (y : Reading). receivedAs y lentBits) e)
-      ∙ h
+      ∙ sym (ap (λ (y : Read). receivedAs y lentBits) e)
+      ∙ h .same
       ∙ ap received lent-is)
       w
 
   pub of-refused :
-      {r : Answer} (out : List ℕ) {x : Reading} {k : ℕ}
-      → x ≡ Reading.Refused k
-      → receivedAs x lentBits ≡ received lentBits
+      {r : Answer} (out : List ℕ) {x : Read} {k : ℕ}
+      → x ≡ Read.Refused k
+      → ReadHere x
       → r ≡ answer k s 0
       → WithAnyStore r out s out (λ (store : List ℕ). onReceived (frameOf f b) (received (frameOf f b .pdu)) s store)
   unfolding onReceived
   of-refused out {k = k} e h a =
       refused-store k s out (λ (store : List ℕ). onReceived (frameOf f b) (received (frameOf f b .pdu)) s store) a
       (λ store.
-      sym (ap (λ (o : Outcome Received). onReceived (frameOf f b) o s store) (read-is e h)))
+      sym (ap (λ (o : Outcome Received). onReceived (frameOf f b) o s store) (read-is e (h .same))))

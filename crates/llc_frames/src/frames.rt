@@ -10,7 +10,7 @@ ghost use Rattle.bits.specs.Bits.{bits, part};
 ghost use Rattle.tdma_time.specs.Slots.{valid};
 ghost use Rattle.llc_rule.specs.Limits.{outputBytes};
 ghost use Rattle.llc_rule.specs.Messages.{slotBefore};
-ghost use Rattle.llc_rule.specs.Received.{received};
+ghost use Rattle.llc_pdus.specs.Received.{received};
 ghost use Rattle.llc_calls.specs.Decoded.{frameOf, FrameInside};
 ghost use Rattle.llc_calls.specs.Ranges.{frameRange};
 ghost use Rattle.llc_received.specs.Numbers.{nsIn};
@@ -23,15 +23,15 @@ ghost use Rattle.llc_frames.specs.Answered.{foundAt};
 ghost use Rattle.llc_frames.specs.Numbers.{dueTo};
 use llc_calls::FrameCall;
 use llc_pdus::Pdu;
+use llc_pdus::Read;
+use llc_pdus::from_bitbuf;
 use llc_pdus::sdu_bytes;
 use llc_queues::expected_ack_for_ssi;
 use llc_queues::push_front_expected_ack;
 use llc_queues::schedule_outgoing_ack;
 use llc_queues::take_expected_ack;
-use llc_received::Reading;
 use llc_received::SeqNumbers;
 use llc_received::put_upward;
-use llc_received::read;
 use llc_received::seq_numbers;
 use llc_state::Entry;
 use llc_state::ScheduledOutAck;
@@ -159,8 +159,8 @@ pub fn rx_tma_unitdata_ind(state: State, out: &mut [u8], f: FrameCall, bytes: &[
 {
     let at = f.pdu;
     let frame = &bytes[at..];
-    match read(frame, f.pdu_len) {
-        Reading::Frame(pdu, sdu) => {
+    match from_bitbuf(frame, f.pdu_len) {
+        Read::Frame(pdu, sdu) => {
             let mut number = 0;
             let part = sdu_bytes(frame, sdu, &mut number);
             if number != 0 {
@@ -168,6 +168,6 @@ pub fn rx_tma_unitdata_ind(state: State, out: &mut [u8], f: FrameCall, bytes: &[
             }
             rx_tma_unitdata_ind_bl(state, out, f, bytes, pdu, part, sdu.place, sdu.len)
         }
-        Reading::Refused(number) => Answer::refused(number, state),
+        Read::Refused(number) => Answer::refused(number, state),
     }
 }

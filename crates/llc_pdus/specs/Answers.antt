@@ -4,14 +4,16 @@ use mathlib.Core.List.{List}
 use lib.Dec.{leb}
 use lib.ListN.{length, take}
 use Rattle.questions.specs.Outcome.{Outcome, accepted, refused, ask}
-use Rattle.llc_pdus.specs.Headers.{Reading, reading}
+use Rattle.llc_pdus.specs.Headers.{Reading, reading, header}
+use Rattle.llc_pdus.specs.Received.{Received, received}
 use Rattle.llc_pdus.specs.Sdus.{sduAt}
+use Rattle.llc_pdus.specs.declared.headers.Head.{Head}
 use Rattle.llc_pdus.specs.declared.Pdu.{Pdu}
 use Rattle.llc_pdus.specs.declared.Sdu.{Sdu}
 use Rattle.llc_pdus.specs.declared.Read.{Read}
 use Rattle.llc_pdus.specs.declared.Written.{Written}
 
--- A frame taken apart.
+-- A frame taken apart: its PDU, and where its SDU lies.
 pub record Frame : Type 0 where
   pub pdu : Pdu
   pub sdu : Sdu
@@ -19,10 +21,12 @@ pub record Frame : Type 0 where
 -- What a `Read` says.
 abbrev pub answered : Read → Outcome Frame
 answered (Read.Frame p s) = accepted (record { pdu = p; sdu = s })
-answered Read.TooShort = refused 9
-answered Read.NotBasic = refused 10
-answered Read.NoHeader = refused 11
-answered Read.OutOfRange = refused 5
+answered (Read.Refused n) = refused n
+
+-- What a `Head` says.
+abbrev pub headed : Head → Outcome Pdu
+headed (Head.Of p) = accepted p
+headed (Head.Refused n) = refused n
 
 -- What a `Written` says: the frame's length in bits.
 abbrev pub written : Written → Outcome ℕ
@@ -30,14 +34,22 @@ written (Written.Bits n) = accepted n
 written Written.OutOfRange = refused 5
 written Written.NoRoom = refused 8
 
--- The PDU and the SDU of n bits: what is behind the header.
-abbrev pub frameOf : ℕ → Reading → Frame
-frameOf n r = record { pdu = r .pdu; sdu = sduAt (r .size) (n - r .size) }
+-- The header of the first n of the bits l: question 5 asks whether there are so many.
+abbrev pub pduOf : Outcome Reading → Outcome Pdu
+pduOf (accepted r) = accepted (r .pdu)
+pduOf (refused k) = refused k
 
-abbrev pub framed : ℕ → Outcome Reading → Outcome Frame
-framed n (accepted r) = accepted (frameOf n r)
+abbrev pub headFrom : List ℕ → ℕ → Outcome Pdu
+headFrom l n = ask 5 (leb n (length l)) (pduOf (reading (take n l)))
+
+-- Where the SDU of a frame of n bits lies: behind the header.
+abbrev pub sduOf : ℕ → Pdu → Sdu
+sduOf n p = sduAt (length (header p)) (n - length (header p))
+
+abbrev pub framed : ℕ → Outcome Received → Outcome Frame
+framed n (accepted r) = accepted (record { pdu = r .header; sdu = sduOf n (r .header) })
 framed n (refused k) = refused k
 
 -- Reading the first n of the bits l: question 5 asks whether there are so many.
 abbrev pub readFrom : List ℕ → ℕ → Outcome Frame
-readFrom l n = ask 5 (leb n (length l)) (framed n (reading (take n l)))
+readFrom l n = ask 5 (leb n (length l)) (framed n (received (take n l)))

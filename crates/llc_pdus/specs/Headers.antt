@@ -2,6 +2,7 @@
 use Prim.Native.Nat.{ℕ}
 use mathlib.Core.Bool.{Bool, true, false, not}
 use mathlib.Core.List.{List, [], _∷_}
+use mathlib.Core.Option.{Option, none, some}
 use lib.Dec.{leb, eqb}
 use lib.ListN.{length, getD}
 use Rattle.questions.specs.Outcome.{Outcome, accepted, ask}
@@ -27,6 +28,19 @@ hasFcs (BlAdata fcs nr ns) = fcs
 hasFcs (BlData fcs ns) = fcs
 hasFcs (BlUdata fcs) = fcs
 hasFcs (BlAck fcs nr) = fcs
+
+-- Its N(S) and its N(R), if it has one.
+abbrev pub nsOf : Pdu → Option Bool
+nsOf (BlAdata f nr ns) = some ns
+nsOf (BlData f ns) = some ns
+nsOf (BlUdata f) = none
+nsOf (BlAck f nr) = none
+
+abbrev pub nrOf : Pdu → Option Bool
+nrOf (BlAdata f nr ns) = some nr
+nrOf (BlData f ns) = none
+nrOf (BlUdata f) = none
+nrOf (BlAck f nr) = some nr
 
 -- The type by its two bits, and how long its header is.
 pub data Kind : Type 0 where

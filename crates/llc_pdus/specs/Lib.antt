@@ -1,5 +1,6 @@
 pub mod Answers
 pub mod Headers
+pub mod Received
 pub mod Sdus
 pub mod Types
 pub mod Writes

@@ -6,7 +6,7 @@ use lib.Dec.{leb, ltb, eqb}
 use lib.ListN.{length, take, drop}
 use Rattle.questions.specs.Outcome.{Outcome, accepted, refused, ask}
 use Rattle.llc_pdus.specs.Headers.{header}
-use Rattle.llc_pdus.specs.declared.HeaderEnd.{HeaderEnd}
+use Rattle.llc_pdus.specs.declared.headers.HeaderEnd.{HeaderEnd}
 use Rattle.llc_pdus.specs.declared.Pdu.{Pdu}
 use Rattle.llc_pdus.specs.declared.Sdu.{Sdu}
 

@@ -1,4 +1,5 @@
 // The basic link PDUs, from tetra-pdus' llc: BL-ADATA, BL-DATA, BL-UDATA and BL-ACK, read and written in lent bytes.
+mod headers;
 mod llc_pdu_type;
 mod reading;
 mod writing;
@@ -6,7 +7,6 @@ mod writing;
 pub use llc_pdu_type::LlcPduType;
 pub use llc_pdu_type::TypeOf;
 pub use reading::from_bitbuf;
-pub use reading::header_end;
 pub use reading::sdu_bytes;
 pub use writing::N251_BL_MAX_TLSDU_LEN_BITS;
 pub use writing::to_bitbuf;
@@ -33,26 +33,12 @@ pub struct Sdu {
     pub place: usize,
 }
 
-/// Where the header of a frame ends.
-pub struct HeaderEnd {
-    /// The byte that holds its last bit.
-    pub byte: usize,
-    /// How many bits of that byte are the header's.
-    pub bits: usize,
-}
-
 /// What reading a frame gives.
 pub enum Read {
     /// A PDU, and where its SDU lies.
     Frame(Pdu, Sdu),
-    /// Under four bits (number 9).
-    TooShort,
-    /// No basic link PDU: a type of 8 or more (number 10).
-    NotBasic,
-    /// No whole header (number 11).
-    NoHeader,
-    /// The frame has fewer bits than it is said to have (number 5).
-    OutOfRange,
+    /// The number of the first question failed: 9 to 12, or 5 if the frame has fewer bits than it is said to have.
+    Refused(u8),
 }
 
 /// What writing a frame gives.

@@ -1,85 +1,39 @@
-// A frame taken apart: its header is in its first byte.
+// A frame taken apart: its header, its check sequence, and the SDU between them.
 ghost use mathlib.Core.Path.{_≡_};
-ghost use lib.ListN.{length};
-ghost use Rattle.bits.specs.Bits.{toBits, bits};
+ghost use Rattle.bits.specs.Bits.{bits};
 ghost use Rattle.llc_pdus.specs.Answers.{answered, readFrom};
-ghost use Rattle.llc_pdus.specs.Headers.{header, readingOf};
-ghost use Rattle.llc_pdus.specs.Sdus.{sduAt, handed, numbered, handedBack, headerEnd};
-use crate::HeaderEnd;
-use crate::Pdu;
+ghost use Rattle.llc_pdus.specs.Sdus.{sduAt, handed, numbered, handedBack};
 use crate::Read;
 use crate::Sdu;
-use bits::within;
+use crate::headers::Head;
+use crate::headers::has_fcs;
+use crate::headers::header_end;
+use crate::headers::header_len;
+use crate::headers::read_header;
+use fcs::Checked;
+use fcs::check_fcs;
 
-/// The PDU of a frame of so many bits, and where its SDU lies.
+/// The PDU of a frame of so many bits, and where its SDU lies. The check is lent the bytes from the header's last byte onwards,
+/// and runs over all bits behind the header.
 pub fn from_bitbuf(frame: &[u8], len: usize) -> Read
     ensures { λ r. ⌜ answered r ≡ readFrom (bits (now (frame .entry))) len ⌝ }
 {
-    if !within(len, frame) {
-        return Read::OutOfRange;
-    }
-    if len < 4 {
-        return Read::TooShort;
-    }
-    let b = frame[0];
-    if 128 <= b {
-        return Read::NotBasic;
-    }
-    let pdu = first_byte(b);
-    let size = header_len(pdu);
-    if len < size {
-        return Read::NoHeader;
-    }
-    Read::Frame(pdu, sdu_at(size, len - size))
-}
-
-// The PDU that a first byte begins.
-fn first_byte(b: u8) -> Pdu
-    ensures { λ r. ⌜ r ≡ readingOf (toBits 8 b) .pdu ⌝ }
-{
-    let has_fcs = b / 64 % 2 == 1;
-    let x = b / 8 % 2 == 1;
-    let y = b / 4 % 2 == 1;
-    if b / 32 % 2 == 1 {
-        if b / 16 % 2 == 1 {
-            return Pdu::BlAck { has_fcs, nr: x };
+    match read_header(frame, len) {
+        Head::Of(pdu) => {
+            let first = header_len(pdu);
+            let behind = len - first;
+            if !has_fcs(pdu) {
+                return Read::Frame(pdu, sdu_at(first, behind));
+            }
+            let end = header_end(pdu);
+            let k = end.byte;
+            match check_fcs(&frame[k..], end.bits, behind) {
+                Checked::Right => Read::Frame(pdu, sdu_at(first, behind)),
+                Checked::Wrong => Read::Refused(12),
+                Checked::OutOfRange => Read::Refused(5),
+            }
         }
-        return Pdu::BlUdata { has_fcs };
-    }
-    if b / 16 % 2 == 1 {
-        return Pdu::BlData { has_fcs, ns: x };
-    }
-    Pdu::BlAdata {
-        has_fcs,
-        nr: x,
-        ns: y,
-    }
-}
-
-// How many bits the header of a PDU has.
-pub(crate) fn header_len(pdu: Pdu) -> usize
-    ensures { λ r. ⌜ r ≡ length (header pdu) ⌝ }
-{
-    match pdu {
-        Pdu::BlAdata {
-            has_fcs: _,
-            nr: _,
-            ns: _,
-        } => 6,
-        Pdu::BlData { has_fcs: _, ns: _ } => 5,
-        Pdu::BlUdata { has_fcs: _ } => 4,
-        Pdu::BlAck { has_fcs: _, nr: _ } => 5,
-    }
-}
-
-/// Where the header of a PDU ends in its frame: the bits behind it are lent from that byte on.
-pub fn header_end(pdu: Pdu) -> HeaderEnd
-    ensures { λ r. ⌜ r ≡ headerEnd pdu ⌝ }
-{
-    let last = header_len(pdu) - 1;
-    HeaderEnd {
-        byte: last / 8,
-        bits: last % 8 + 1,
+        Head::Refused(number) => Read::Refused(number),
     }
 }
 

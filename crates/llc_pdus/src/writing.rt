@@ -9,7 +9,7 @@ ghost use Rattle.llc_pdus.specs.Headers.{bit as bitOf, header};
 ghost use Rattle.llc_pdus.specs.Writes.{longest, written as writtenOf};
 use crate::Pdu;
 use crate::Written;
-use crate::reading::header_len;
+use crate::headers::header_len;
 use bitbuffer::BitBuffer;
 use bits::within;
 

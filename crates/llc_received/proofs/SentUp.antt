@@ -1,13 +1,12 @@
 -- What goes up of a frame, as the code writes it, and the room that it takes.
-use Prim.Native.Nat.{ℕ, _+_, _-_, _*_, _^_, _≤_, _<_}
+use Prim.Native.Nat.{ℕ, _+_, _*_, _^_, _≤_, _<_}
 use native.Mathlib.Omega.{arith}
 use mathlib.Core.Path.{_≡_, _∙_, refl, sym, ap}
 use mathlib.Core.Bool.{Bool, true, _&&_}
 use mathlib.Core.List.{List, [], _∷_, _++_, append-nil}
 use borrow.Author.Tests.{leb-true}
 use lib.Dec.{leb}
-use lib.ListN.{length, take, drop, length-take, length-drop}
-use lib.Seq.{take-all}
+use lib.ListN.{length, take, drop, length-take}
 use Rattle.lists.specs.Writes.{Wrote}
 use Rattle.lists.proofs.Writes.{same-bytes}
 use Rattle.lists.proofs.Choices.{both}
@@ -18,7 +17,7 @@ use Rattle.llc_pdus.specs.declared.Pdu.the-variants.{BlAdata, BlData, BlUdata, 
 use Rattle.llc_rule.specs.Limits.{longestFrame}
 use Rattle.llc_rule.specs.Calls.{Frame}
 use Rattle.llc_rule.specs.Ranges.{isType}
-use Rattle.llc_rule.specs.Received.{upward}
+use Rattle.llc_rule.specs.Upward.{upward}
 use Rattle.llc_rule.specs.Records.{bytes, allBytes, indicationBytes}
 use Rattle.llc_rule.proofs.Records.{mostUp, small-indication}
 use Rattle.llc_calls.specs.Decoded.{frameOf, FrameInside}
@@ -76,10 +75,6 @@ unfolding frameRange
 frame-small f h =
     let e = both {x = isType (f .«ssi_type») && leb (f .«block_len») 64} {y = leb (f .«pdu_len») longestFrame} h in
     (leb-true (f .«block_len») 64 (both {x = isType (f .«ssi_type»)} {y = leb (f .«block_len») 64} (e .0) .1), leb-true (f .«pdu_len») longestFrame (e .1))
-
--- The bytes from a place on, as they are lent.
-pub lent : (b : List ℕ) (at : ℕ) → take (length b - at) (drop at b) ≡ drop at b
-lent b at = take-all (length b - at) (drop at b) (omega (arith, length-drop at b))
 
 -- The frame f of the call b, and the part l that holds its SDU.
 module _ (f : FrameCall) (b : List ℕ) (inside : FrameInside f b) (l : List ℕ) (place len : ℕ) (sdu : SduLent l place len) where

@@ -1,11 +1,7 @@
-// Frames that came in: reading one, and what goes up of it. From tetra-entities' llc_bs_ms.rs; nothing here knows a link's state.
+// Frames that came in: their N(S) and N(R), and what goes up of them. From tetra-entities' llc_bs_ms.rs; nothing here knows a link's state.
 mod numbers;
-mod reading;
 mod upward;
 
 pub use numbers::SeqNumbers;
 pub use numbers::seq_numbers;
-pub use reading::Reading;
-pub use reading::has_fcs;
-pub use reading::read;
 pub use upward::put_upward;

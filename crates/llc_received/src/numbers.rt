@@ -1,6 +1,6 @@
 // The sequence numbers that a PDU has.
 ghost use mathlib.Core.Path.{_≡_};
-ghost use Rattle.llc_rule.specs.Received.{nsOf, nrOf};
+ghost use Rattle.llc_pdus.specs.Headers.{nsOf, nrOf};
 ghost use Rattle.llc_received.specs.Numbers.{nsIn, nrIn};
 use llc_pdus::Pdu;
 

@@ -5,7 +5,7 @@ ghost use mathlib.Core.Bool.{true};
 ghost use lib.ListN.{length};
 ghost use Rattle.lists.specs.Writes.{Wrote};
 ghost use Rattle.bits.specs.Bits.{bits, part};
-ghost use Rattle.llc_rule.specs.Received.{upward};
+ghost use Rattle.llc_rule.specs.Upward.{upward};
 ghost use Rattle.llc_rule.specs.Records.{allBytes, indicationBytes};
 ghost use Rattle.llc_calls.specs.Decoded.{frameOf, FrameInside};
 ghost use Rattle.llc_calls.specs.Ranges.{frameRange};

@@ -8,12 +8,10 @@ use mathlib.Core.List.{List, [], _∷_, map}
 use mathlib.Core.Option.{none, some}
 use borrow.Author.Tests.{leb-true, ltb-true}
 use lib.Dec.{eqb, leb}
-use lib.ListN.{length-drop}
 use Rattle.lists.specs.Lists.{All}
 use Rattle.lists.proofs.Lists.{all-append}
 use Rattle.lists.proofs.Choices.{both, either, by-choice}
 use Rattle.questions.specs.Outcome.{accepted}
-use Rattle.bits.proofs.Laws as Bits
 use Rattle.llc_pdus.specs.declared.Pdu.{Pdu}
 use Rattle.llc_pdus.specs.declared.Pdu.the-variants.{BlAdata, BlData, BlUdata, BlAck}
 use Rattle.llc_pdus.proofs.Laws.{header-short}
@@ -21,14 +19,16 @@ use Rattle.llc_pdus.proofs.Framing.{all-header, frame-short, all-frame}
 use Rattle.llc_rule.specs.Calls.{Call, start, tickStart, tickEnd, request, frame, byReceipt, Request, Frame, parsed}
 use Rattle.llc_rule.specs.Ranges.{hasMask, requestInRange, frameInRange}
 use Rattle.llc_rule.specs.Records.{Record, acknowledged, unacknowledged}
-use Rattle.llc_rule.specs.Received.{Received, indication, upward}
+use Rattle.llc_pdus.specs.Received.{Received}
+use Rattle.llc_pdus.proofs.Received.{sdu-short, sdu-bits}
+use Rattle.llc_rule.specs.Upward.{indication, upward}
 use Rattle.llc_rule.specs.Messages.{Due, stealsSlot, replyTo, carrierOf, sentOf}
 use Rattle.llc_rule.specs.Link.{Link, new}
 use Rattle.llc_rule.specs.Step.{retransmissions, firstSendings, onTickEnd, step}
 use Rattle.llc_rule.specs.Runs.{left, given, Exchange, run}
 use Rattle.llc_rule.specs.Sizes.{FitsMask, FitsBits, FitsSent, FitsIndication, Fits}
 use Rattle.llc_rule.proofs.Paths.{Heard, Paths, step-law}
-use Rattle.llc_rule.proofs.Ranges.{request-fields, frame-fields, type-at-most, frame-lengths, request-lengths, sdu-end}
+use Rattle.llc_rule.proofs.Ranges.{request-fields, frame-fields, type-at-most, frame-lengths, request-lengths}
 use Rattle.llc_rule.proofs.Held.{AllHeld, Brings, held-step, passed-retransmissions, passed-firsts}
 use Rattle.llc_rule.proofs.Values.{IsByte, RequestFits, FrameFits, CallFits, CallFitsIn, parsed-fits}
 
@@ -180,13 +180,11 @@ up-fits f (BlAck c nr) (x ∷ sdu) b e h = (one-up f (BlAck c nr) 0 (x ∷ sdu) 
 
 heard-fits : (f : Frame) (r : Received) (l : Link) → Heard f r l → FrameFits f → All Fits (upward f (r .header) (r .sdu))
 heard-fits f r l a b =
-    let s = sdu-end (f .pdu) r (a .apart) in
     up-fits f (r .header) (r .sdu) b (a .range)
-    (rw (s .is)
     (record {
-      bits = Bits.all-drop (s .from) (f .pdu) (b .pdu);
-      count = omega (arith, length-drop (s .from) (f .pdu), frame-lengths f (a .range) .1);
-    }))
+      bits = sdu-bits (f .pdu) r (a .apart) (b .pdu);
+      count = omega (arith, sdu-short (f .pdu) r (a .apart), frame-lengths f (a .range) .1);
+    })
 
 -- The records of each path.
 fits-paths : (l : Link) → FitsLink l → Paths l (λ c k rs. CallFits c → All Fits rs)

@@ -1,22 +1,16 @@
--- What question 5 says of each field of a request and of a frame that a message or a record takes over, and what is left of a
--- frame behind its header.
+-- What question 5 says of each field of a request and of a frame that a message or a record takes over.
 use Prim.Native.Nat.{ℕ, _≤_}
 use native.Mathlib.Omega.{arith}
-use mathlib.Core.Path.{_≡_, refl, subst}
+use mathlib.Core.Path.{_≡_}
 use mathlib.Core.Bool.{true, not, _||_}
-use mathlib.Core.List.{List}
 use borrow.Author.Tests.{eqb-true, leb-true}
 use lib.Dec.{eqb, leb, ltb}
-use lib.ListN.{length, drop}
+use lib.ListN.{length}
 use Rattle.lists.proofs.Choices.{by-test, both}
-use Rattle.questions.specs.Outcome.{Outcome, accepted, refused}
-use Rattle.questions.proofs.Asked.{by-question}
-use Rattle.llc_pdus.specs.Headers.{Reading, reading, hasFcs}
 use Rattle.llc_pdus.specs.Writes.{longest}
 use Rattle.llc_rule.specs.Limits.{longestFrame}
 use Rattle.llc_rule.specs.Calls.{Request, Frame}
 use Rattle.llc_rule.specs.Ranges.{hasMask, isType, isReceipt, requestInRange, frameInRange}
-use Rattle.llc_rule.specs.Received.{Received, checks, checked, received}
 
 -- The fields of a request.
 pub record RequestFields (r : Request) : Type 0 where
@@ -66,22 +60,3 @@ frame-lengths f h =
 pub request-lengths : (r : Request) → requestInRange r ≡ true → (length (r .block) ≤ 64) × (length (r .sdu) ≤ longest)
 request-lengths r h =
     let t = request-fields r h in (leb-true (length (r .block)) 64 (t .block), leb-true (length (r .sdu)) longest (t .sdu))
-
--- The SDU of a frame is the end of its bits, from some place on.
-pub record EndOf (l sdu : List ℕ) : Type 0 where
-  pub from : ℕ
-  pub is : sdu ≡ drop from l
-
-abbrev EndIn : List ℕ → Outcome Received → Type 0
-EndIn l (refused n) = Unit {0}
-EndIn l (accepted r) = EndOf l (r .sdu)
-
-checked-end : (l : List ℕ) (o : Outcome Reading) → EndIn l (checked l o)
-unfolding checked
-checked-end l (refused n) = tt
-checked-end l (accepted r) =
-    by-question (EndIn l) 12 (not (hasFcs (r .pdu)) || checks (drop (r .size) l)) tt (λ e. record { from = r .size; is = refl })
-
-pub sdu-end : (l : List ℕ) (r : Received) → received l ≡ accepted r → EndOf l (r .sdu)
-unfolding received
-sdu-end l r e = subst (EndIn l) e (checked-end l (reading l))

@@ -6,7 +6,7 @@ use mathlib.Core.Bool.{true, cond}
 use mathlib.Core.List.{List, [], _∷_, _++_, append-assoc, append-nil, map}
 use mathlib.Core.Option.{Option, none, some}
 use lib.Dec.{ltb}
-use lib.ListN.{length, length-append, length-drop}
+use lib.ListN.{length, length-append}
 use Rattle.lists.specs.Lists.{Visit, walk, among, All}
 use Rattle.lists.proofs.Choices.{by-test, either}
 use Rattle.tdma_time.specs.declared.TdmaTime.{TdmaTime}
@@ -17,7 +17,9 @@ use Rattle.llc_rule.specs.Limits.{longestFrame, outputBytes}
 use Rattle.llc_rule.specs.Calls.{Call, start, tickStart, tickEnd, request, frame, byReceipt, Request, Frame}
 use Rattle.llc_rule.specs.Ranges.{requestInRange}
 use Rattle.llc_rule.specs.Records.{Record, acknowledged, unacknowledged, Sent, Indication, indicationBytes, bytes, allBytes}
-use Rattle.llc_rule.specs.Received.{Received, indication, upward}
+use Rattle.llc_pdus.specs.Received.{Received}
+use Rattle.llc_pdus.proofs.Received.{sdu-short}
+use Rattle.llc_rule.specs.Upward.{indication, upward}
 use Rattle.llc_rule.specs.Messages.{Message, Due, sentOf, Place, overdue, replyTo}
 use Rattle.llc_rule.specs.Link.{Link, new}
 use Rattle.llc_rule.specs.Step.{timed, stay, resend, leave, agedBy, retransmission, Sending, firstSending, retransmissions, firstSendings, onTickEnd, step}
@@ -26,7 +28,7 @@ use Rattle.llc_rule.specs.Sound.{Within}
 use Rattle.llc_rule.specs.Sizes.{SmallSent, Small}
 use Rattle.llc_rule.proofs.Paths.{Heard, Paths, step-law}
 use Rattle.llc_rule.proofs.Records.{mostSent, small-sent, small-reply, small-indication}
-use Rattle.llc_rule.proofs.Ranges.{frame-lengths, request-lengths, sdu-end}
+use Rattle.llc_rule.proofs.Ranges.{frame-lengths, request-lengths}
 use Rattle.llc_rule.proofs.Held.{passed-retransmissions, passed-firsts, AllHeld, Brings, held-step}
 
 -- Bytes of several records ------------------------------------------------------------------------------------------------
@@ -199,8 +201,7 @@ up-room f (BlAck c nr) (b ∷ sdu) hb hs = one-up 4 (indication f (BlAck c nr) 0
 heard-room : (f : Frame) (r : Received) (l : Link) → Heard f r l → length (allBytes (upward f (r .header) (r .sdu))) ≤ outputBytes
 heard-room f r l a =
     let n = frame-lengths f (a .range) in
-    let s = sdu-end (f .pdu) r (a .apart) in
-    up-room f (r .header) (r .sdu) (n .0) (rw (s .is) (omega (arith, n .1, length-drop (s .from) (f .pdu))))
+    up-room f (r .header) (r .sdu) (n .0) (omega (arith, n .1, sdu-short (f .pdu) r (a .apart)))
 
 -- The records of each path.
 room-paths : (l : Link) → Within l → Small l → Paths l (λ c k rs. length (allBytes rs) ≤ outputBytes)

@@ -24,7 +24,8 @@ use Rattle.fcs.specs.Fcs.{start, fcs}
 use Rattle.llc_rule.specs.Calls.{fromBytes, toBytes, filledFrom, requestIn, frameIn, tagOf, inner, filled, parsed}
 use Rattle.llc_rule.specs.Records.{Record, packed, counted, masked, countedIfAny, sentBytes, replyBytes, indicationBytes, bytes}
 use Rattle.llc_rule.specs.Ranges.{requestInRange, frameInRange, inRange}
-use Rattle.llc_rule.specs.Received.{checks, checked, received, upward}
+use Rattle.llc_pdus.specs.Received.{checks, checked, received}
+use Rattle.llc_rule.specs.Upward.{upward}
 use Rattle.llc_rule.specs.Messages.{noReceipts, overdue, slotBefore, replyTo, sentOf}
 use Rattle.llc_rule.specs.Link.{Link, new, startedWith}
 use Rattle.llc_rule.specs.Step.{dueFor, rowFor, withAcknowledged, withUnacknowledged, withStolen, onData, onUnitdata, awaiting, answeredBy, onReceived, onFrame, held, waits, onReport, onRelease, retransmission, firstSending, retransmissions, firstSendings, onTickEnd, act, called, step}

@@ -2,7 +2,7 @@ pub mod Limits
 pub mod Calls
 pub mod Records
 pub mod Ranges
-pub mod Received
+pub mod Upward
 pub mod Messages
 pub mod Done
 pub mod Link

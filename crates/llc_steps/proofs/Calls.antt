@@ -15,7 +15,9 @@ use Rattle.tx_receipt.specs.Marks.{allowed}
 use Rattle.tx_receipt.specs.declared.TxState.the-variants.{Pending}
 use Rattle.llc_rule.specs.Calls.{Action, report, release, Frame}
 use Rattle.llc_rule.specs.Records.{Sent}
-use Rattle.llc_rule.specs.Received.{Received, nsOf, nrOf, upward}
+use Rattle.llc_pdus.specs.Headers.{nsOf, nrOf}
+use Rattle.llc_pdus.specs.Received.{Received}
+use Rattle.llc_rule.specs.Upward.{upward}
 use Rattle.llc_rule.specs.Messages as Rule
 use Rattle.llc_rule.specs.Messages.{Message, markOf}
 use Rattle.llc_rule.specs.Done.{Done, done}

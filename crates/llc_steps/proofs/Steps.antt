@@ -6,7 +6,7 @@ use mathlib.Core.List.{List, []}
 use Rattle.questions.specs.Outcome.{Outcome, accepted, refused}
 use Rattle.llc_rule.specs.Calls.{Call, start, tickStart, tickEnd, request, frame, byReceipt, isStart, parsed}
 use Rattle.llc_rule.specs.Ranges.{inRange}
-use Rattle.llc_rule.specs.Received.{received}
+use Rattle.llc_pdus.specs.Received.{received}
 use Rattle.llc_rule.specs.Done.{done}
 use Rattle.llc_rule.specs.Link as Link
 use Rattle.llc_rule.specs.Step as Step

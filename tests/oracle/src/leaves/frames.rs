@@ -4,11 +4,12 @@ use crate::exports::*;
 use crate::prng::Prng;
 use crate::report::Report;
 use tetra_core::BitBuffer;
+use tetra_entities::llc::components::fcs::check_fcs;
 use tetra_pdus::llc::enums::llc_pdu_type::LlcPduType;
 use tetra_pdus::llc::pdus::{bl_ack::BlAck, bl_adata::BlAdata, bl_data::BlData, bl_udata::BlUdata};
 
 const WANTED: &[(&str, &[&str])] = &[
-    ("from_bitbuf", &["BL-ADATA", "BL-DATA", "BL-UDATA", "BL-ACK", "9", "10", "11", "5"]),
+    ("from_bitbuf", &["BL-ADATA", "BL-DATA", "BL-UDATA", "BL-ACK", "9", "10", "11", "12", "5"]),
     ("to_bitbuf", &["BL-ADATA", "BL-DATA", "BL-UDATA", "BL-ACK", "5", "5, a long SDU", "8"]),
     ("try_from and into_raw", &["a type", "5"]),
 ];
@@ -18,7 +19,8 @@ const LONGEST: usize = 2595;
 /// A refusal of a function that answers with one number.
 const REFUSED: u64 = 1 << 32;
 
-/// What a reader of the Rust gives, as the link asks it: the type by the first four bits, then the reader of that type.
+/// What a reader of the Rust gives, as the link asks it: the type by the first four bits, then the reader of that type, then the
+/// check.
 fn rust_read(frame: &[u8], len: usize) -> FrameAnswer {
     let refused = |number| FrameAnswer { number, kind: 0, has_fcs: false, nr: false, ns: false, first: 0, len: 0, place: 0 };
     let mut buffer = BitBuffer::from_bytes(frame);
@@ -47,6 +49,9 @@ fn rust_read(frame: &[u8], len: usize) -> FrameAnswer {
     let Some((kind, has_fcs, nr, ns)) = read else {
         return refused(11);
     };
+    if has_fcs && !check_fcs(&buffer) {
+        return refused(12);
+    }
     let (first, left) = (buffer.get_raw_pos(), buffer.get_len_remaining());
     // The copy of what is left begins at the SDU's first bit's place in its bytes.
     let copy = BitBuffer::from_bitbuffer_pos(&buffer);
@@ -63,7 +68,8 @@ fn read(frame: &[u8], len: usize, report: &mut Report) {
         5 => "5",
         9 => "9",
         10 => "10",
-        _ => "11",
+        11 => "11",
+        _ => "12",
     };
     report.compare("from_bitbuf", answer, || format!("{len} bits of {frame:02x?}"), &here, &rust);
 }

@@ -1,4 +1,4 @@
-use Rattle.llc_frames.proofs.Paths.{Handed, handed-back, of-frame, of-refused}
+use Rattle.llc_frames.proofs.Paths.{Handed, read-here, handed-back, of-frame, of-refused}
 use borrow.Author.Needs.{needs}
 use Rattle.llc_frames.proofs.frames.rx_tma_unitdata_ind.Statement.{statement}
 use Rattle.llc_frames.proofs.frames.rx_tma_unitdata_ind.Tie as tie
@@ -12,8 +12,8 @@ part-frame-start c = search needs
 part-frame-end : tie.Need-part-frame-end
 part-frame-end c = search needs
 
-read-requires : tie.Need-read-requires
-read-requires c κs = search needs
+from-bitbuf-requires : tie.Need-from-bitbuf-requires
+from-bitbuf-requires c κs = search needs
 
 enum-known-pdu : tie.Need-enum-known-pdu
 enum-known-pdu c = search needs
@@ -31,7 +31,7 @@ handed : (c : tie.After-sdu-bytes)
 handed c =
     let d = c .before .before .before .before .before .before .before .before .before in
     let a = d .args in
-    handed-back (a .state) (a .f) (a .bytes .now) (c .before .before .before .pdu .given .1) (c .before .before .before .before .before .read .ensures .1) (d .pre .1 .1 .0) (d .pre .1 .1 .1 .0) (c .sdu-bytes .ensures)
+    handed-back (a .state) (a .f) (a .bytes .now) (c .before .before .before .pdu .given .1) (read-here (a .state) (a .f) (a .bytes .now) (d .pre .1 .1 .1 .0) (c .before .before .before .before .before .from-bitbuf .ensures)) (d .pre .1 .1 .0) (d .pre .1 .1 .1 .0) (c .sdu-bytes .ensures)
 
 returns : tie.Need-returns
 returns c = absurd (c .before .if1 .taken (handed (c .before .before) .zeroth))
@@ -52,13 +52,15 @@ same-length c = search needs
 
 returns-2 : tie.Need-returns-2
 returns-2 c =
-    let a = c .before .before .before .before .before .before .before .before .before .before .before .before .before .before .args in
-    of-frame (a .state) (a .f) (a .bytes .now) (c .before .before .before .before .before .before .before .before .pdu .given .1) (c .before .before .before .before .before .before .before .before .before .before .read .ensures .0) (handed (c .before .before .before .before .before)) (c .before .before .rx-tma-unitdata-ind-bl .ensures)
+    let d = c .before .before .before .before .before .before .before .before .before .before .before .before .before .before in
+    let a = d .args in
+    of-frame (a .state) (a .f) (a .bytes .now) (c .before .before .before .before .before .before .before .before .pdu .given .1) (read-here (a .state) (a .f) (a .bytes .now) (d .pre .1 .1 .1 .0) (c .before .before .before .before .before .before .before .before .before .before .from-bitbuf .ensures)) (handed (c .before .before .before .before .before)) (c .before .before .rx-tma-unitdata-ind-bl .ensures)
 
 returns-3 : tie.Need-returns-3
 returns-3 c =
-    let a = c .before .before .before .before .before .before .before .before .args in
-    of-refused (a .state) (a .f) (a .bytes .now) (a .out .now) (c .before .before .number2 .given .1) (c .before .before .before .before .read .ensures .0) (c .refused2 .ensures)
+    let d = c .before .before .before .before .before .before .before .before in
+    let a = d .args in
+    of-refused (a .state) (a .f) (a .bytes .now) (a .out .now) (c .before .before .number2 .given .1) (read-here (a .state) (a .f) (a .bytes .now) (d .pre .1 .1 .1 .0) (c .before .before .before .before .from-bitbuf .ensures)) (c .refused2 .ensures)
 
 pub rx-tma-unitdata-ind-spec : {M : Type 1} → statement M
 rx-tma-unitdata-ind-spec =
@@ -67,7 +69,7 @@ rx-tma-unitdata-ind-spec =
     sub-frame
     part-frame-start
     part-frame-end
-    read-requires
+    from-bitbuf-requires
     enum-known-pdu
     sdu-bytes-requires
     refused-requires

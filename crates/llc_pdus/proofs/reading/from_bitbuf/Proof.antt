@@ -1,88 +1,155 @@
-use Prim.Native.Nat.{ℕ, _-_, _/_, _%_}
+use Prim.Native.Nat.{ℕ, _-_, _≤_}
 use native.Mathlib.Omega.{arith}
-use mathlib.Core.Bool.{true, false}
+use mathlib.Core.Path.{_≡_, _∙_, sym, ap}
 use mathlib.Core.List.{List}
-use mathlib.Core.Path.{_≡_, _∙_, ap, ap₂}
-use Rattle.bits.specs.Bits.{toBits, bits}
 use borrow.Author.Needs.{needs}
-use borrow.Author.Tests.{leb-true, eq-eqb, ne-eqb}
-use lib.ListN.{length, getD}
-use Rattle.questions.proofs.Asked.{passed, failed}
-use Rattle.llc_pdus.specs.Answers.{answered}
-use Rattle.llc_pdus.specs.Headers.{header, one, kindAt, lengthOf}
+use borrow.Author.Tests.{not-true, not-false}
+use lib.ListN.{length, drop}
+use Rattle.bits.specs.Bits.{bits}
+use Rattle.fcs.specs.Answers as Fcs
+use Rattle.llc_pdus.specs.Answers.{headed, answered, sduOf}
+use Rattle.llc_pdus.specs.Headers.{header}
 use Rattle.llc_pdus.specs.Sdus.{sduAt}
-use Rattle.llc_pdus.specs.declared.Pdu.{Pdu}
+use Rattle.llc_pdus.specs.declared.headers.HeaderEnd.{HeaderEnd}
 use Rattle.llc_pdus.specs.declared.Read.{Read}
 use Rattle.llc_pdus.specs.declared.Sdu.{Sdu}
-use Rattle.llc_pdus.proofs.FirstByte.{first, header-length, has-first, too-short, not-basic, no-header, whole-header}
+use Rattle.llc_pdus.proofs.Received.{Apart, apart, lent, checkBehind, ends-inside, unchecked, right, wrong, inside-bytes, refused-so}
 use Rattle.llc_pdus.proofs.reading.from_bitbuf.Statement.{statement}
 use Rattle.llc_pdus.proofs.reading.from_bitbuf.Tie as tie
 
-within-requires : tie.Need-within-requires
-within-requires c κs = search needs
+read-header-requires : tie.Need-read-header-requires
+read-header-requires c κs = search needs
 
-returns : tie.Need-returns
-returns c = rw (failed (c .before .within .ensures) (c .if1 .taken))
-
-returns-2 : tie.Need-returns-2
-returns-2 c =
-    let a = c .before .before .before .before .args in
-    rw (passed (c .before .before .within .ensures) (c .before .if1 .left), too-short (a .frame .now) (a .len) (c .if2 .taken) (leb-true (a .len) (length (bits (a .frame .now))) (passed (c .before .before .within .ensures) (c .before .if1 .left))))
-
-shared-slice-read-b : tie.Need-shared-slice-read-b
-shared-slice-read-b c =
-    let a = c .before .before .before .before .before .args in
-    has-first (a .frame .now) (a .len) (c .before .if2 .left) (leb-true (a .len) (length (bits (a .frame .now))) (passed (c .before .before .before .within .ensures) (c .before .before .if1 .left)))
-
-returns-3 : tie.Need-returns-3
-unfolding toBits
-returns-3 c =
-    let a = c .before .before .before .before .before .before .args in
-    let top : one (first (a .frame .now)) 0 ≡ true = eq-eqb (getD (a .frame .now) 0 0 / 128 % 2) 1 (omega (arith, c .before .shared-slice-known2 .given 0)) in
-    rw (passed (c .before .before .before .before .within .ensures) (c .before .before .before .if1 .left), not-basic (a .frame .now) (a .len) (c .before .before .if2 .left) (leb-true (a .len) (length (bits (a .frame .now))) (passed (c .before .before .before .before .within .ensures) (c .before .before .before .if1 .left))) top)
-
-first-byte-requires : tie.Need-first-byte-requires
-first-byte-requires c κs = search needs
+enum-known-pdu : tie.Need-enum-known-pdu
+enum-known-pdu c = search needs
 
 header-len-requires : tie.Need-header-len-requires
 header-len-requires c κs = search needs
 
-returns-4 : tie.Need-returns-4
-unfolding toBits
-returns-4 c =
-    let a = c .before .before .before .before .before .before .before .before .before .args in
-    let t : List ℕ = first (a .frame .now) in
-    let top : one t 0 ≡ false = ne-eqb (getD (a .frame .now) 0 0 / 128 % 2) 1 (omega (arith, c .before .before .before .before .shared-slice-known2 .given 0)) in
-    let size : c .before .header-len .result ≡ lengthOf (kindAt t) =
-    c .before .header-len .ensures ∙ ap (λ (p : Pdu). length (header p)) (c .before .before .first-byte .ensures) ∙ header-length (kindAt t) (one t 1) (one t 4) (one t 5) in
-    rw (passed (c .before .before .before .before .before .before .before .within .ensures) (c .before .before .before .before .before .before .if1 .left), no-header (a .frame .now) (a .len) (c .before .before .before .before .before .if2 .left) (leb-true (a .len) (length (bits (a .frame .now))) (passed (c .before .before .before .before .before .before .before .within .ensures) (c .before .before .before .before .before .before .if1 .left))) top (omega arith))
+-- The frame, whose header was read.
+known : (c : tie.After-header-len)
+    → let a = c .before .before .before .before .before .before .args in
+    Apart (a .frame .now) (a .len) (c .before .before .pdu .given .0 .0)
+known c =
+    let a = c .before .before .before .before .before .before .args in
+    let g = c .before .before .pdu .given in
+    apart (a .frame .now) (a .len) (g .0 .0) (sym (ap headed (g .1)) ∙ c .before .before .before .before .read-header .ensures)
+
+-- The SDU from there to the end of the frame.
+place : (c : tie.After-header-len)
+    → sduAt (c .header-len .result) (c .before .before .before .before .before .before .args .len - c .header-len .result)
+    ≡ sduOf (c .before .before .before .before .before .before .args .len) (c .before .before .pdu .given .0 .0)
+place c = ap (λ (k : ℕ). sduAt k (c .before .before .before .before .before .before .args .len - k)) (c .header-len .ensures)
+
+sub-behind : tie.Need-sub-behind
+sub-behind c = omega (arith, c .header-len .ensures, known c .whole)
+
+has-fcs-requires : tie.Need-has-fcs-requires
+has-fcs-requires c κs = search needs
 
 sdu-at-requires : tie.Need-sdu-at-requires
 sdu-at-requires c κs = search needs
 
+returns : tie.Need-returns
+returns c =
+    let d = c .before .before .before in
+    let h = c .before .before .has-fcs in
+    ap (λ (s : Sdu). answered (Read.Frame (d .before .before .pdu .given .0 .0) s)) (c .sdu-at .ensures ∙ place d)
+    ∙ unchecked (known d) (sym (h .ensures) ∙ not-true (h .result) (c .before .if1 .taken))
+
+header-end-requires : tie.Need-header-end-requires
+header-end-requires c κs = search needs
+
+-- The header ends in the frame.
+ends-in : (c : tie.After-header-end) → c .header-end .result .byte ≤ length (c .before .before .before .before .before .before .before .before .before .args .frame .now)
+ends-in c = omega (arith, ends-inside (known (c .before .before .before)), ap (λ (e : HeaderEnd). e .byte) (c .header-end .ensures))
+
+sub-check-fcs : tie.Need-sub-check-fcs
+sub-check-fcs c = ends-in c
+
+part-check-fcs-start : tie.Need-part-check-fcs-start
+part-check-fcs-start c = ends-in c
+
+part-check-fcs-end : tie.Need-part-check-fcs-end
+part-check-fcs-end c = search needs
+
+check-fcs-requires : tie.Need-check-fcs-requires
+check-fcs-requires c κs = search needs
+
+enum-told : tie.Need-enum-told
+enum-told c = search needs
+
+sdu-at-requires-2 : tie.Need-sdu-at-requires-2
+sdu-at-requires-2 c κs = search needs
+
+enum-told-2 : tie.Need-enum-told-2
+enum-told-2 c = search needs
+
+enum-told-3 : tie.Need-enum-told-3
+enum-told-3 c = search needs
+
+enum-known-number : tie.Need-enum-known-number
+enum-known-number c = search needs
+
+-- What the check answered, of the bits behind the header.
+answer : (c : tie.After-check-fcs)
+    → let a = c .before .before .before .before .before .before .before .before .before .before .before .args in
+    let p = c .before .before .before .before .before .before .before .pdu .given .0 .0 in
+    Fcs.checked (c .check-fcs .result) ≡ checkBehind (a .frame .now) p (a .len - length (header p))
+answer c =
+    let a = c .before .before .before .before .before .before .before .before .before .before .before .args in
+    let p = c .before .before .before .before .before .before .before .pdu .given .0 .0 in
+    let e = c .before .before .header-end in
+    let n = c .before .before .before .before .before .header-len in
+    c .check-fcs .ensures
+    ∙ ap (λ (l : List ℕ). Fcs.check (bits l) (e .result .bits) (a .len - n .result)) (lent (a .frame .now) (e .result .byte))
+    ∙ ap (λ (x : HeaderEnd). Fcs.check (bits (drop (x .byte) (a .frame .now))) (x .bits) (a .len - n .result)) (e .ensures)
+    ∙ ap (λ (k : ℕ). checkBehind (a .frame .now) p (a .len - k)) (n .ensures)
+
+returns-2 : tie.Need-returns-2
+returns-2 c =
+    let d = c .before .before .before .before .before .before .before .before in
+    ap (λ (s : Sdu). answered (Read.Frame (d .before .before .pdu .given .0 .0) s)) (c .sdu-at2 .ensures ∙ place d)
+    ∙ right (known d) (sym (ap Fcs.checked (c .before .enum-told .given .1)) ∙ answer (c .before .before .before))
+
+returns-3 : tie.Need-returns-3
+returns-3 c =
+    let h = c .before .before .before .before .before .before .has-fcs in
+    wrong (known (c .before .before .before .before .before .before .before)) (sym (h .ensures) ∙ not-false (h .result) (c .before .before .before .before .before .if1 .left))
+    (sym (ap Fcs.checked (c .enum-told2 .given .1)) ∙ answer (c .before .before))
+
+returns-4 : tie.Need-returns-4
+returns-4 c = inside-bytes (known (c .before .before .before .before .before .before .before)) (sym (ap Fcs.checked (c .enum-told3 .given .1)) ∙ answer (c .before .before))
+
+-- A header that was refused.
 returns-5 : tie.Need-returns-5
-unfolding toBits
 returns-5 c =
-    let a = c .before .before .before .before .before .before .before .before .before .before .args in
-    let t : List ℕ = first (a .frame .now) in
-    let top : one t 0 ≡ false = ne-eqb (getD (a .frame .now) 0 0 / 128 % 2) 1 (omega (arith, c .before .before .before .before .before .shared-slice-known2 .given 0)) in
-    let size : c .before .before .header-len .result ≡ lengthOf (kindAt t) =
-    c .before .before .header-len .ensures ∙ ap (λ (p : Pdu). length (header p)) (c .before .before .before .first-byte .ensures) ∙ header-length (kindAt t) (one t 1) (one t 4) (one t 5) in
-    rw (passed (c .before .before .before .before .before .before .before .before .within .ensures) (c .before .before .before .before .before .before .before .if1 .left), whole-header (a .frame .now) (a .len) (c .before .before .before .before .before .before .if2 .left) (leb-true (a .len) (length (bits (a .frame .now))) (passed (c .before .before .before .before .before .before .before .before .within .ensures) (c .before .before .before .before .before .before .before .if1 .left))) top (omega (arith, c .before .if4 .left)))
-    (ap₂ (λ (p : Pdu) (s : Sdu). answered (Read.Frame p s)) (c .before .before .before .first-byte .ensures)
-    (c .sdu-at .ensures ∙ ap (λ (k : ℕ). sduAt k (a .len - k)) size))
+    let a = c .before .before .before .before .before .args in
+    let g = c .before .number .given in
+    refused-so (bits (a .frame .now)) (a .len) (g .0 .0) (sym (ap headed (g .1)) ∙ c .before .before .before .read-header .ensures)
 
 pub from-bitbuf-spec : {M : Type 1} → statement M
 from-bitbuf-spec =
     tie.close
     (tie.spec
-    within-requires
-    returns
-    returns-2
-    shared-slice-read-b
-    returns-3
-    first-byte-requires
+    read-header-requires
+    enum-known-pdu
     header-len-requires
-    returns-4
+    sub-behind
+    has-fcs-requires
     sdu-at-requires
+    returns
+    header-end-requires
+    sub-check-fcs
+    part-check-fcs-start
+    part-check-fcs-end
+    check-fcs-requires
+    enum-told
+    sdu-at-requires-2
+    enum-told-2
+    enum-told-3
+    enum-known-number
+    returns-2
+    returns-3
+    returns-4
     returns-5)

@@ -1,5 +1,5 @@
 use mathlib.Core.Path.{sym, ap}
-use Rattle.llc_rule.specs.Received.{nsOf, nrOf}
+use Rattle.llc_pdus.specs.Headers.{nsOf, nrOf}
 use borrow.Author.Needs.{needs}
 use Rattle.llc_received.proofs.numbers.seq_numbers.Statement.{statement}
 use Rattle.llc_received.proofs.numbers.seq_numbers.Tie as tie

@@ -1,8 +1,8 @@
 use Prim.Native.Nat.{_/_, _%_}
 use Rattle.bits.specs.Bits.{toBits}
 use borrow.Author.Tests.{eq-eqb, ne-eqb}
-use Rattle.llc_pdus.proofs.reading.first_byte.Statement.{statement}
-use Rattle.llc_pdus.proofs.reading.first_byte.Tie as tie
+use Rattle.llc_pdus.proofs.headers.first_byte.Statement.{statement}
+use Rattle.llc_pdus.proofs.headers.first_byte.Tie as tie
 
 returns : tie.Need-returns
 unfolding toBits

@@ -2,10 +2,10 @@ use Prim.Native.Nat.{ℕ, _+_, _-_, _/_, _%_}
 use native.Mathlib.Omega.{arith}
 use mathlib.Core.Path.{ap}
 use borrow.Author.Needs.{needs}
-use Rattle.llc_pdus.specs.declared.HeaderEnd.{HeaderEnd}
+use Rattle.llc_pdus.specs.declared.headers.HeaderEnd.{HeaderEnd}
 use Rattle.llc_pdus.proofs.Laws.{header-long}
-use Rattle.llc_pdus.proofs.reading.header_end.Statement.{statement}
-use Rattle.llc_pdus.proofs.reading.header_end.Tie as tie
+use Rattle.llc_pdus.proofs.headers.header_end.Statement.{statement}
+use Rattle.llc_pdus.proofs.headers.header_end.Tie as tie
 
 header-len-requires : tie.Need-header-len-requires
 header-len-requires c κs = search needs
