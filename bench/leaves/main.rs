@@ -29,11 +29,21 @@ fn row(what: &str, ours: f64, rust: f64) {
     println!("| {what} | {ours:.1} | {rust:.1} | {:.2} |", rust / ours);
 }
 
+/// Puts the FCS of so many bits from a place on behind them.
+fn put_fcs(frame: &mut [u8], at: usize, len: usize) {
+    let sum = fcs::compute_fcs(&BitBuffer::from_bytes(frame), at, at + len);
+    for i in 0..32 {
+        let place = at + len + i;
+        let bit = (sum >> (31 - i) & 1) as u8;
+        frame[place / 8] = frame[place / 8] & !(0x80 >> (place % 8)) | bit << (7 - place % 8);
+    }
+}
+
 fn main() {
     const BITS: usize = 2595;
     const AT: usize = 5;
     let mut frame: Vec<u8> = (0..336u32).map(|i| (i * 37 + 11) as u8).collect();
-    frame[0] = 0b0101_1000 | frame[0] & 7;
+    frame[0] = 0b0001_1000 | frame[0] & 7;
     println!("| what | here, ns | Rust, ns | times faster |");
     println!("|---|---|---|---|");
 
@@ -48,7 +58,28 @@ fn main() {
         black_box(buf.peek_bits(4));
         black_box(bl_data::BlData::from_bitbuf(&mut buf).unwrap());
     });
-    row("reading a header", ours, rust);
+    row("reading a frame without FCS", ours, rust);
+
+    // The same with the FCS flag, and the FCS behind its 2,595 bits; the Rust reads the header, and its link then checks.
+    let mut flagged = frame.clone();
+    flagged[0] |= 0b0100_0000;
+    put_fcs(&mut flagged, AT, BITS);
+    let len = AT + BITS + 32;
+    let mut buf = BitBuffer::from_bytes(&flagged);
+    buf.set_raw_end(len);
+    bl_data::BlData::from_bitbuf(&mut buf).unwrap();
+    assert!(fcs::check_fcs(&buf));
+    assert_eq!(unsafe { leaf_read(flagged.as_ptr(), flagged.len(), len) }, buf.get_pos() as u64);
+    let ours = time(|| {
+        black_box(unsafe { leaf_read(black_box(flagged.as_ptr()), flagged.len(), len) });
+    });
+    let rust = time(|| {
+        buf.seek(0);
+        black_box(buf.peek_bits(4));
+        black_box(bl_data::BlData::from_bitbuf(&mut buf).unwrap());
+        black_box(fcs::check_fcs(black_box(&buf)));
+    });
+    row("reading a frame of 2,595 bits and their FCS", ours, rust);
 
     // A BL-DATA header of five bits, and the SDU behind it.
     let source: Vec<u8> = (0..325u32).map(|i| (i * 91 + 3) as u8).collect();

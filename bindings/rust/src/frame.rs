@@ -15,7 +15,7 @@ pub struct Frame<'a> {
     pub endpoint_id: u32,
     /// What the link passes on.
     pub block: Block<'a>,
-    /// The PDU, up to 2,633 bits.
+    /// The PDU, up to 2,633 bits; with the FCS flag, its check bits are the last 32.
     pub pdu: Bits<'a>,
 }
 

@@ -40,9 +40,9 @@ pub struct Record<'a> {
     pub receipt: Option<u8>,
     /// What was passed on with the request or the frame; not of replies.
     pub block: Option<&'a [u8]>,
-    /// FCS flag; of what goes up.
+    /// FCS flag, of what goes up: if it is set, it came with check bits, and they were right.
     pub fcs_flag: Option<bool>,
-    /// The PDU to be sent, or the SDU that goes up, if one is left.
+    /// The PDU to be sent, or the SDU that goes up, if one is left: without its check bits.
     pub bits: Option<Bits<'a>>,
 }
 

@@ -206,6 +206,30 @@ fn a_frame_goes_up_and_is_acknowledged_by_stealing() -> Result<(), Box<dyn Error
     Ok(())
 }
 
+#[test]
+fn check_bits_do_not_go_up() -> Result<(), Box<dyn Error>> {
+    let mut link = started();
+    // BL-DATA with the FCS flag and N(S) 0: the text M31 and its check bits.
+    let pdu: u64 = (0b01010 << 56 | 0x4d3331 << 32 | 0x5b255b5d) << 3;
+    let mut records = link.frame(&Frame::new(radio(1), CARRIER, bits(&pdu.to_be_bytes(), 61)))?;
+    let up = records.next().unwrap();
+    assert_eq!((up.kind, up.fcs_flag), (Kind::DataUp, Some(true)));
+    assert_eq!(up.bits, Some(bits(b"M31", 24)));
+    assert_eq!(records.next(), None);
+
+    // Nothing but its check bits, which are zeros then.
+    let up = link
+        .frame(&Frame::new(radio(1), CARRIER, bits(&[0b01010_000, 0, 0, 0, 0], 37)))?
+        .next()
+        .unwrap();
+    assert_eq!((up.kind, up.fcs_flag, up.bits), (Kind::DataUp, Some(true), None));
+
+    // BL-ACK with N(R) 0, and nothing but its check bits.
+    let ack = Frame::new(radio(1), CARRIER, bits(&[0b01110_000, 0, 0, 0, 0], 37));
+    assert_eq!(link.frame(&ack)?.next(), None);
+    Ok(())
+}
+
 /// A call that must be refused.
 type Call = fn(&mut Link) -> Result<wipturay::Records<'_>, Refused>;
 

@@ -17,5 +17,7 @@ pub record CheckSequence : Type 0 where
   pub only-remainder : (n : ℕ) (l r : List ℕ) → Divided n l r → rest n l ≡ r
   -- The check bits, inverted, are what is left of the message times x ^ 32 with the start added.
   pub fcs-divided : (m : List ℕ) → AllBits m → Divided (length m) (plus (start (length m)) (m ++ replicate 32 0)) (inverted (fcs m))
+  -- There are 32 of them, whatever they are of.
+  pub length-fcs : (m : List ℕ) → length (fcs m) ≡ 32
   -- A table of 256 that passes the computed test follows the rule.
   pub ruled : (l : List ℕ) → length l ≡ 256 → right 0 l ≡ true → Ruled l

@@ -1,5 +1,5 @@
 -- Runs that the checker computes (llc_rule proofs/Runs and proofs/Instance): document 01's sample, its edges, what the course gets wrong,
--- awkward runs, marks, full widths, orders of questions, ranges, check sequences, and the instance.
+-- awkward runs, marks, full widths, orders of questions, ranges, check sequences, check bits that are cut, and the instance.
 use mathlib.Core.Path.{_≡_}
 use mathlib.Core.Bool.{true}
 use Rattle.llc_rule.specs.Link.{new}
@@ -13,6 +13,7 @@ use Rattle.llc_rule.proofs.Runs.Widths as Widths
 use Rattle.llc_rule.proofs.Runs.Orders as Orders
 use Rattle.llc_rule.proofs.Runs.Ranges as Ranges
 use Rattle.llc_rule.proofs.Runs.Checks as Checks
+use Rattle.llc_rule.proofs.Runs.CheckBits as CheckBits
 use Rattle.llc_rule.proofs.Instance.{instance, turned}
 
 pub record Computed : Type 0 where
@@ -55,5 +56,14 @@ pub record Computed : Type 0 where
   pub ranges-values : agrees new Ranges.values ≡ true
   pub checks-flagged : agrees new Checks.flagged ≡ true
   pub checks-lengths : agrees new Checks.lengths ≡ true
+  pub check-bits-emptied : agrees new CheckBits.emptied ≡ true
+  pub check-bits-cut : agrees new CheckBits.cut ≡ true
+  pub check-bits-longest : agrees new CheckBits.longest ≡ true
+  pub check-bits-unflagged : agrees new CheckBits.unflagged ≡ true
+  pub check-bits-too-short : agrees new CheckBits.too-short ≡ true
+  pub check-bits-wrong-check : agrees new CheckBits.wrong-check ≡ true
+  pub check-bits-twice : agrees new CheckBits.twice ≡ true
+  pub check-bits-acknowledged : agrees new CheckBits.acknowledged ≡ true
+  pub check-bits-other-flag : agrees new CheckBits.other-flag ≡ true
   pub instance-agrees : agrees new instance ≡ true
   pub turned-agrees : agrees new turned ≡ true

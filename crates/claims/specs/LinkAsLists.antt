@@ -1,25 +1,30 @@
 -- The link as lists, and demand 3 of it (llc_rule).
 use Prim.Native.Nat.{ℕ, _+_, _/_, _≤_}
 use mathlib.Core.Path.{_≡_}
-use mathlib.Core.Bool.{true}
+use mathlib.Core.Bool.{true, false}
 use mathlib.Core.List.{List, [], _∷_}
 use lib.Dec.{eqb}
 use lib.ListN.{drop, length}
 use Rattle.lists.specs.Lists.{all, All}
+use Rattle.questions.specs.Outcome.{accepted, number}
+use Rattle.llc_pdus.specs.Received.{wholeFrame}
+use Rattle.llc_pdus.specs.declared.Pdu.the-variants.{BlData, BlAck}
+use Rattle.llc_rule.specs.Calls.{frame, frameIn, parsed}
 use Rattle.llc_rule.specs.Limits.{outputBytes}
 use Rattle.llc_rule.specs.Claim.{Claims}
 use Rattle.llc_rule.specs.Seen.{SeesTheSame, ruled, unhindered}
+use Rattle.llc_rule.specs.Texts.{textsIn}
 use Rattle.llc_rule.specs.Sendings.{AtMostFour, sendings}
 use Rattle.llc_rule.specs.Link.{Link, new}
-use Rattle.llc_rule.specs.Runs.{Exchange, after, given, left, run}
+use Rattle.llc_rule.specs.Runs.{Exchange, after, exchange, given, left, run}
 use Rattle.llc_rule.specs.Past.{holdersAfter}
 use Rattle.llc_rule.specs.Sound.{Sound, Within}
 use Rattle.llc_rule.specs.Records.{Indication, Record, Reply, Sent, allBytes, bytes, indicationBytes, kind, replyBytes, sentBytes}
 use Rattle.llc_rule.specs.Sizes.{Fits, Small}
 use Rattle.llc_rule.specs.Step.{step}
-use Rattle.llc_rule.proofs.Applied.{answers, asked, secondRequest}
+use Rattle.llc_rule.proofs.Applied.{answers, asked, secondRequest, text}
 use Rattle.llc_rule.proofs.FitsRuns.{FitsLink}
-use Rattle.llc_rule.proofs.Instance.{askSecond, hasKind, hasNumber, instanceCalls, laterCalls, second, turnedCalls}
+use Rattle.llc_rule.proofs.Instance.{ackOfFirst, askSecond, textOfFirst, hasKind, hasNumber, instanceCalls, laterCalls, second, turnedCalls}
 use Rattle.llc_rule.proofs.Records.{maskSize, sizeIfAny}
 use Rattle.llc_rule.proofs.Values.{IsByte}
 
@@ -48,6 +53,16 @@ pub record LinkAsLists : Type 0 where
       AtMostFour secondRequest (sendings 0x22 (drop 4 (ruled second (run new instanceCalls))))
   pub answers-are : ruled second (run new instanceCalls) ≡ answers
   pub four-times-by-rule : eqb (length (sendings 0x22 (drop 4 answers))) 4 ≡ true
+  -- Two calls of it, put to the link after the first request: a text that comes with check bits goes up without them, an
+  -- acknowledgement with check bits and nothing else sends nothing up.
+  pub text-spelled : parsed textOfFirst ≡ accepted (frame (frameIn (drop 3 textOfFirst)))
+  pub text-accepted : number (step asked textOfFirst) ≡ 0
+  pub ack-spelled : parsed ackOfFirst ≡ accepted (frame (frameIn (drop 3 ackOfFirst)))
+  pub ack-accepted : number (step asked ackOfFirst) ≡ 0
+  pub text-framed : frameIn (drop 3 textOfFirst) .pdu ≡ wholeFrame (BlData true true) text
+  pub text-instance : textsIn (exchange textOfFirst (step asked textOfFirst) .records) ≡ text ∷ []
+  pub ack-framed : frameIn (drop 3 ackOfFirst) .pdu ≡ wholeFrame (BlAck true false) []
+  pub ack-instance : textsIn (exchange ackOfFirst (step asked ackOfFirst) .records) ≡ []
   -- What holds of queues, tables and receipts after every run.
   pub sound-run : (cs : List (List ℕ)) → Sound (holdersAfter (run new cs)) (after new cs)
   -- A record's bytes determine it.

@@ -1,19 +1,24 @@
 -- PDUs (llc_pdus).
 use Prim.Native.Nat.{ℕ, _%_, _*_, _+_, _<_, _≤_}
 use mathlib.Core.Path.{_≡_}
+use mathlib.Core.Bool.{false}
 use mathlib.Core.List.{List, _++_}
 use lib.ListN.{length, take}
 use Rattle.questions.specs.Outcome.{accepted}
 use Rattle.bits.specs.Bits.{AllBits, bits, part, splice, value}
-use Rattle.llc_pdus.specs.Headers.{Reading, header, reading}
+use Rattle.llc_pdus.specs.Answers.{answered, readFrom}
+use Rattle.llc_pdus.specs.Headers.{Reading, hasFcs, header, reading}
+use Rattle.llc_pdus.specs.Received.{Received, received, wholeFrame}
 use Rattle.llc_pdus.specs.Types.{firstBits, fromRaw, raw, typeOf}
 use Rattle.llc_pdus.specs.Sdus.{headerEnd, holding}
 use Rattle.llc_pdus.specs.Writes.{frame}
 use Rattle.llc_pdus.specs.declared.Pdu.{Pdu}
+use Rattle.llc_pdus.specs.declared.Read.{Read}
+use Rattle.llc_pdus.specs.declared.Sdu.{Sdu}
 use Rattle.llc_pdus.specs.declared.llc_pdu_type.LlcPduType.{LlcPduType}
 
 pub record Pdus : Type 0 where
-  -- What begins with a PDU's header reads as that PDU, with the SDU behind it.
+  -- What begins with a PDU's header reads as that PDU, with a header of so many bits.
   pub header-reads : (p : Pdu) (sdu : List ℕ) → reading (header p ++ sdu) ≡ accepted (record { pdu = p; size = length (header p) })
   -- A list of bits that reads as a PDU begins with its header.
   pub reading-header : (l : List ℕ) (r : Reading) → AllBits l → reading l ≡ accepted r → take (r .size) l ≡ header (r .pdu)
@@ -31,13 +36,29 @@ pub record Pdus : Type 0 where
       → 0 < n
       → first + n ≤ 8 * length f
       → part (bits (holding f first n)) (first % 8) n ≡ part (bits f) first n
-  -- What was written reads back as the same PDU.
+  -- The header of what was written reads back.
   pub reads-back :
       (p : Pdu) (l s : List ℕ) (from n : ℕ)
       → from + n ≤ length s
       → reading (take (length (header p) + n) (splice l 0 (frame p s from n))) ≡ accepted (record { pdu = p; size = length (header p) })
-  -- And as the same SDU bits.
+  -- Behind it stand the SDU bits.
   pub sdu-back :
       (p : Pdu) (l s : List ℕ) (from n : ℕ)
       → from + n ≤ length s
       → part (splice l 0 (frame p s from n)) (length (header p)) n ≡ part s from n
+  -- Without the FCS flag it is received as the same PDU with the same SDU.
+  pub received-back :
+      (p : Pdu) (l s : List ℕ) (from n : ℕ)
+      → from + n ≤ length s
+      → hasFcs p ≡ false
+      → received (take (length (header p) + n) (splice l 0 (frame p s from n))) ≡ accepted (record { header = p; sdu = part s from n })
+  -- A frame with its SDU, and with the check bits of that where the flag announces them, is received as that PDU with that SDU.
+  pub frame-received : (p : Pdu) (sdu : List ℕ) → received (wholeFrame p sdu) ≡ accepted (record { header = p; sdu = sdu })
+  -- And nothing else is received.
+  pub received-frame : (l : List ℕ) (r : Received) → AllBits l → received l ≡ accepted r → l ≡ wholeFrame (r .header) (r .sdu)
+  -- The bytes handed back of a frame that was read hold what it is received as.
+  pub held-sdu :
+      (f : List ℕ) (n : ℕ) (p : Pdu) (s : Sdu)
+      → answered (Read.Frame p s) ≡ readFrom (bits f) n
+      → received (take n (bits f))
+      ≡ accepted (record { header = p; sdu = part (bits (holding f (s .first) (s .len))) (s .place) (s .len) })

@@ -1,16 +1,20 @@
 -- Runs of the entry point (llc_runs).
 use Prim.Native.Nat.{ℕ, _≤_}
 use mathlib.Core.Path.{_≡_}
-use mathlib.Core.Bool.{true}
+use mathlib.Core.Bool.{true, false}
 use mathlib.Core.List.{List, [], _∷_, map}
 use mathlib.Core.Option.{some}
 use lib.Dec.{eqb}
 use lib.ListN.{drop, length}
-use Rattle.lists.specs.Lists.{all}
+use Rattle.lists.specs.Lists.{all, among}
 use Rattle.bits.specs.Bits.{AllBytes, bits}
-use Rattle.llc_rule.specs.Calls.{Request}
+use Rattle.questions.specs.Outcome.{accepted}
+use Rattle.llc_pdus.specs.Received.{wholeFrame}
+use Rattle.llc_pdus.specs.declared.Pdu.{Pdu}
+use Rattle.llc_rule.specs.Calls.{Request, Frame, frame, parsed}
 use Rattle.llc_rule.specs.Seen.{SeesItsOwnPast, SeesTheSame, calls, ruleAfter, ruleSights, ruled, unhindered}
 use Rattle.llc_rule.specs.Sendings.{AtMostFour, requestSpelled, sendings}
+use Rattle.llc_rule.specs.Texts.{textsIn, shown}
 use Rattle.llc_rule.specs.Past.{heldBy, holdersAfter, past, sight, strays, takenFrom}
 use Rattle.llc_rule.specs.Rule.{atFirst}
 use Rattle.llc_rule.proofs.Applied.{secondRequest}
@@ -30,7 +34,8 @@ pub record Runs : Type 0 where
   -- The contract of `call` leaves one answer, and a refusal changes no byte.
   pub one-answer : OneAnswer
   pub no-leaves-all : NoLeavesAll
-  -- All that is claimed of every run; what it says of an address, of one answer and of four sendings is spelled out below.
+  -- All that is claimed of every run; what it says of an address, of one answer, of a text that came in and of four sendings is
+  -- spelled out below.
   pub claim : Claim
   pub seen :
       (store : List ℕ) (cs : List Lent)
@@ -53,6 +58,22 @@ pub record Runs : Type 0 where
       → exchange (after (begin store) before) c .number ≡ 0
       → requestSpelled (c .call) ≡ some r
       → length (sendings (r .receipt) (run (left (after (begin store) before) c) later)) ≤ 4
+  pub texts :
+      (store : List ℕ) (before : List Lent) (c : Lent) (f : Frame) (p : Pdu) (text : List ℕ)
+      → parsed (c .call) ≡ accepted (frame f)
+      → f .pdu ≡ wholeFrame p text
+      → exchange (after (begin store) before) c .number ≡ 0
+      → textsIn (exchange (after (begin store) before) c .records) ≡ shown p text
+  pub texts-read :
+      (store : List ℕ) (before : List Lent) (c : Lent) (f : Frame) (p : Pdu) (text : List ℕ)
+      → parsed (c .call) ≡ accepted (frame f)
+      → f .pdu ≡ wholeFrame p text
+      → among (exchange (after (begin store) before) c .number) (9 ∷ 10 ∷ 11 ∷ 12 ∷ []) ≡ false
+  pub texts-only :
+      (store : List ℕ) (before : List Lent) (c : Lent) (f : Frame)
+      → parsed (c .call) ≡ accepted (frame f)
+      → exchange (after (begin store) before) c .number ≡ 0
+      → (p : Pdu) × ((text : List ℕ) × (f .pdu ≡ wholeFrame p text))
   pub one :
       (s : State) (store out bytes : List ℕ) (l m : Left)
       → AllBytes (l .store)

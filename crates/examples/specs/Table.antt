@@ -60,7 +60,7 @@ last = record { t = 4; f = 18; m = 60; h = 65535 }
 abbrev pub third : TdmaTime
 third = record { t = 3; f = 1; m = 1; h = 0 }
 
--- The rows in document 01's order.
+-- The rows in document 01's order, with request P1's "example of 33 bits (now 1)".
 unfoldable pub table : List Row
 table =
     record { gives = sum []; wanted = accepted (one 0x00000000) }
@@ -69,7 +69,7 @@ table =
     ∷ record { gives = sum (replicate 32 1); wanted = accepted (one 0xFFFFFFFF) }
     ∷ record {
       gives = frame (0 ∷ 1 ∷ 0 ∷ 1 ∷ 1 ∷ 1 ∷ replicate 32 1);
-      wanted = accepted (pos 0 ∷ pos 1 ∷ pos 0 ∷ pos 1 ∷ pos 1 ∷ pos 33 ∷ []);
+      wanted = accepted (pos 0 ∷ pos 1 ∷ pos 0 ∷ pos 1 ∷ pos 1 ∷ pos 1 ∷ []);
     }
     ∷ record { gives = frame (0 ∷ 1 ∷ 0 ∷ 1 ∷ 1 ∷ 1 ∷ replicate 31 1); wanted = number 12 }
     ∷ record { gives = frame (0 ∷ 0 ∷ 0 ∷ []); wanted = number 9 }

@@ -5,7 +5,7 @@ use lib.Dec.{leb, eqb}
 use lib.ListN.{length}
 use Rattle.bits.specs.Bits.{value, part}
 use Rattle.questions.specs.Outcome.{Outcome, accepted, refused, ask}
-use Rattle.fcs.specs.Fcs.{fcs}
+use Rattle.fcs.specs.Fcs.{fcsBits, fcs}
 use Rattle.fcs.specs.declared.Fcs as FcsModule
 use Rattle.fcs.specs.declared.Fcs.the-variants.{Sum}
 use Rattle.fcs.specs.declared.Checked.{Checked}
@@ -30,4 +30,5 @@ checked Checked.OutOfRange = refused 5
 abbrev pub check : List ℕ → ℕ → ℕ → Outcome (Unit {0})
 check l at n =
     ask 5 (leb (at + n) (length l))
-    (ask 12 (leb 32 n) (ask 12 (eqb (value (fcs (part l at (n - 32)))) (value (part l (at + (n - 32)) 32))) (accepted tt)))
+    (ask 12 (leb fcsBits n)
+    (ask 12 (eqb (value (fcs (part l at (n - fcsBits)))) (value (part l (at + (n - fcsBits)) fcsBits))) (accepted tt)))

@@ -15,6 +15,10 @@ start n = cond (leb 1 n && ltb n 32) (replicate n 1 ++ replicate (32 - n) 0) (re
 abbrev pub inverted : List ℕ → List ℕ
 inverted l = map (λ (b : ℕ). sum b 1) l
 
+-- How many check bits there are.
+abbrev pub fcsBits : ℕ
+fcsBits = 32
+
 -- The 32 check bits of a message.
 unfoldable pub fcs : List ℕ → List ℕ
 fcs m = inverted (rest (length m) (plus (start (length m)) (m ++ replicate 32 0)))

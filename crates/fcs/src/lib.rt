@@ -24,6 +24,9 @@ pub enum Checked {
     OutOfRange,
 }
 
+/// How many check bits there are.
+pub const FCS_BITS: usize = 32;
+
 // What is left of each byte times x ^ 32.
 const TABLE: [u32; 256] = [
     0x00000000,
@@ -439,10 +442,10 @@ pub fn check_fcs(part: &[u8], at: usize, len: usize) -> Checked
     if !inside(part, at, len) {
         return Checked::OutOfRange;
     }
-    if len < 32 {
+    if len < FCS_BITS {
         return Checked::Wrong;
     }
-    let before = len - 32;
+    let before = len - FCS_BITS;
     if sum_of(part, at, before) == word_at(part, at, before) {
         Checked::Right
     } else {

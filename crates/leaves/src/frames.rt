@@ -1,4 +1,4 @@
-// Frames: document 01's examples read, and a frame of each PDU written and read back.
+// Frames: document 01's examples and frames with FCS read, and a frame of each PDU written and read back.
 use crate::text::hex;
 use crate::text::number;
 use crate::text::words;
@@ -10,6 +10,12 @@ use llc_pdus::Written;
 pub(crate) fn show() {
     words(b"010111 and 32 ones: ");
     read(b"\x5f\xff\xff\xff\xff", 38);
+    words(b"010111 and 31 ones: ");
+    read(b"\x5f\xff\xff\xff\xff", 37);
+    words(b"0110, b3 and its FCS: ");
+    read(b"\x6b\x3f\xe7\x51\x4e\xc0", 44);
+    words(b"01110 and the FCS of no bits: ");
+    read(b"\x70\x00\x00\x00\x00", 37);
     words(b"000: ");
     read(b"\x00", 3);
     words(b"1000: ");
@@ -63,6 +69,11 @@ fn written() {
         ns: false,
     });
     words(b"BL-DATA N(S) 1: ");
+    write(Pdu::BlData {
+        has_fcs: false,
+        ns: true,
+    });
+    words(b"BL-DATA with FCS and no check bits: ");
     write(Pdu::BlData {
         has_fcs: true,
         ns: true,

@@ -1,5 +1,8 @@
+pub mod CheckBits
+pub mod Examples
 pub mod FirstByte
 pub mod Framing
+pub mod HandedBack
 pub mod Holding
 pub mod Laws
 pub mod Received

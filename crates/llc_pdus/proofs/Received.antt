@@ -12,12 +12,12 @@ use lib.Seq.{length-take-le, take-all, take-take, take-nil, drop-drop}
 use Rattle.bits.specs.Bits.{AllBits, bits, value, part}
 use Rattle.bits.proofs.Laws.{length-bits, length-part, part-take, drop-bits, all-take, all-drop}
 use Rattle.fcs.specs.Answers as Fcs
-use Rattle.fcs.specs.Fcs.{fcs}
+use Rattle.fcs.specs.Fcs.{fcsBits, fcs}
 use Rattle.questions.specs.Outcome.{Outcome, accepted, refused, ask, number}
-use Rattle.questions.proofs.Asked.{accepted-passed, by-question}
-use Rattle.llc_pdus.specs.Answers.{Frame, headed, pduOf, headFrom, answered, sduOf, framed, readFrom}
+use Rattle.questions.proofs.Asked.{content, accepted-passed, by-question, both}
+use Rattle.llc_pdus.specs.Answers.{Frame, headed, pduIn, headFrom, answered, sduOf, framed, readFrom}
 use Rattle.llc_pdus.specs.Headers.{header, Reading, reading, readingOf, hasFcs, lengthOf, kindAt, one}
-use Rattle.llc_pdus.specs.Received.{Received, checks, checked, received}
+use Rattle.llc_pdus.specs.Received.{Received, checks, checkBits, sduBefore, checked, received}
 use Rattle.llc_pdus.specs.Sdus.{sduAt, headerEnd}
 use Rattle.llc_pdus.specs.declared.headers.Head.{Head}
 use Rattle.llc_pdus.specs.declared.Pdu.{Pdu}
@@ -26,41 +26,41 @@ use Rattle.llc_pdus.specs.declared.Sdu.{Sdu}
 use Rattle.llc_pdus.proofs.FirstByte.{header-length}
 use Rattle.llc_pdus.proofs.Laws.{header-ends}
 
--- What an accepted outcome holds.
-abbrev inner : {A : Type 0} → A → Outcome A → A
-inner d (accepted a) = a
-inner d (refused n) = d
-
 -- A header that was read is in the frame, and is its PDU's.
-record Size (l : List ℕ) (r : Reading) : Type 0 where
-  inside : r .size ≤ length l
-  is : r .size ≡ length (header (r .pdu))
+pub record Size (l : List ℕ) (r : Reading) : Type 0 where
+  pub inside : r .size ≤ length l
+  pub is : r .size ≡ length (header (r .pdu))
 
-size-of : (l : List ℕ) (r : Reading) → accepted r ≡ reading l → Size l r
+pub size-of : (l : List ℕ) (r : Reading) → accepted r ≡ reading l → Size l r
 unfolding reading
 size-of l r e =
     let a = accepted-passed 9 (leb 4 (length l)) e in
     let b = accepted-passed 10 (not (one l 0)) (a .1) in
     let c = accepted-passed 11 (leb (lengthOf (kindAt l)) (length l)) (b .1) in
-    let same : r ≡ readingOf l = ap (inner r) (c .1) in
+    let same : r ≡ readingOf l = ap (content r) (c .1) in
     subst (Size l) (sym same)
     (record {
       inside = leb-true (lengthOf (kindAt l)) (length l) (c .0);
       is = sym (header-length (kindAt l) (one l 1) (one l 4) (one l 5));
     })
 
--- What stands behind the header of a PDU.
+-- What stands behind the header of a PDU, and the frame taken apart there.
 abbrev pub behind : Pdu → List ℕ → List ℕ
 behind p l = drop (length (header p)) l
 
+abbrev pub partsOf : Pdu → List ℕ → Received
+partsOf p l = record { header = p; sdu = sduBefore p (behind p l) }
+
 -- What question 12 leaves of a frame whose header was read.
-asked-of : (l : List ℕ) (r : Reading) → Size l r
+pub asked-of : (l : List ℕ) (r : Reading) → Size l r
     → checked l (accepted r)
-    ≡ ask 12 (not (hasFcs (r .pdu)) || checks (behind (r .pdu) l)) (accepted (record { header = r .pdu; sdu = behind (r .pdu) l }))
+    ≡ ask 12 (not (hasFcs (r .pdu)) || checks (behind (r .pdu) l)) (accepted (partsOf (r .pdu) l))
 unfolding checked
 asked-of l r s =
     ap
-    (λ (k : ℕ). ask 12 (not (hasFcs (r .pdu)) || checks (drop k l)) (accepted (record { header = r .pdu; sdu = drop k l })))
+    (λ (k : ℕ).
+    ask 12 (not (hasFcs (r .pdu)) || checks (drop k l))
+    (accepted (record { header = r .pdu; sdu = sduBefore (r .pdu) (drop k l) })))
     (s .is)
 
 -- A frame that was taken apart: where its SDU lies.
@@ -72,11 +72,11 @@ abbrev TakenIf : List ℕ → Outcome Received → Type 0
 TakenIf l (refused n) = Unit {0}
 TakenIf l (accepted r) = Taken l r
 
-taken-at : (l : List ℕ) (p : Pdu) → length (header p) ≤ length l → Taken l (record { header = p; sdu = behind p l })
+taken-at : (l : List ℕ) (p : Pdu) → length (header p) ≤ length l → Taken l (partsOf p l)
 taken-at l p h =
     record {
       inside = omega arith;
-      is = sym (take-all (length l - length (header p)) (behind p l) (omega (arith, length-drop (length (header p)) l)));
+      is = ap (λ (n : ℕ). take (n - checkBits p) (behind p l)) (length-drop (length (header p)) l);
     }
 
 checked-taken : (l : List ℕ) (o : Outcome Reading) → reading l ≡ o → TakenIf l (checked l o)
@@ -129,7 +129,7 @@ read-as r l n h e =
         let long : length (take n l) ≡ n = length-take-le n l h in
         let k = taken (take n l) x q in
         let is : _≡_ {A = Frame} (record { pdu = p; sdu = s }) (record { pdu = x .header; sdu = sduOf n (x .header) }) =
-        ap (inner (record { pdu = p; sdu = s })) t in
+        ap (content (record { pdu = p; sdu = s })) t in
         let place : s ≡ sduOf (length (take n l)) (x .header) = ap (λ (y : Frame). y .sdu) is ∙ ap (λ (m : ℕ). sduOf m (x .header)) (sym long) in
         let pdu : p ≡ x .header = ap (λ (y : Frame). y .pdu) is in
         record {
@@ -210,7 +210,7 @@ pub record Apart (f : List ℕ) (n : ℕ) (p : Pdu) : Type 0 where
   pub whole : length (header p) ≤ n
   pub asks :
       received (take n (bits f))
-      ≡ ask 12 (not (hasFcs p) || checks (behind p (take n (bits f)))) (accepted (record { header = p; sdu = behind p (take n (bits f)) }))
+      ≡ ask 12 (not (hasFcs p) || checks (behind p (take n (bits f)))) (accepted (partsOf p (take n (bits f))))
   pub check : checkBehind f p (n - length (header p)) ≡ ask 12 (checks (behind p (take n (bits f)))) (accepted tt)
 
 apart-at : (f : List ℕ) (n : ℕ) (r : Reading) → n ≤ length (bits f) → reading (take n (bits f)) ≡ accepted r → Apart f n (r .pdu)
@@ -240,8 +240,8 @@ apart f n p e =
     let a = accepted-passed 5 (leb n (length (bits f))) e in
     go (reading (take n (bits f))) refl (a .1) (leb-true n (length (bits f)) (a .0))
   where
-    go : (o : Outcome Reading) → reading (take n (bits f)) ≡ o → accepted p ≡ pduOf o → n ≤ length (bits f) → Apart f n p
-    go (accepted r) q t h = subst (Apart f n) (sym (ap (inner p) t)) (apart-at f n r h q)
+    go : (o : Outcome Reading) → reading (take n (bits f)) ≡ o → accepted p ≡ pduIn o → n ≤ length (bits f) → Apart f n p
+    go (accepted r) q t h = subst (Apart f n) (sym (ap (content p) t)) (apart-at f n r h q)
     go (refused k) q t h = let z : _≡_ {A = ℕ} 0 1 = cc in absurd (omega arith)
 
 -- A header that was refused.
@@ -253,7 +253,7 @@ refused-so l n k e = go (leb n (length l)) (reading (take n l)) refl refl e
         (b : Bool) (o : Outcome Reading)
         → leb n (length l) ≡ b
         → reading (take n l) ≡ o
-        → refused k ≡ ask 5 b (pduOf o)
+        → refused k ≡ ask 5 b (pduIn o)
         → refused k ≡ readFrom l n
     go false o h q t = rw h (ap refused (ap number t))
     go true (accepted r) h q t = let z : _≡_ {A = ℕ} 0 1 = cc in absurd (omega arith)
@@ -268,6 +268,12 @@ never-five : {G : Type 0} (b : Bool) → _≡_ {A = Outcome (Unit {0})} (refused
 never-five true e = absurd (omega (arith, ap number e))
 never-five false e = absurd (omega (arith, ap number e))
 
+checks-long : (l : List ℕ) → checks l ≡ true → fcsBits ≤ length l
+unfolding checks
+checks-long l h =
+    leb-true fcsBits (length l)
+    (both (leb fcsBits (length l)) (eqb (value (fcs (take (length l - fcsBits) l))) (value (drop (length l - fcsBits) l))) h .0)
+
 module _ {f : List ℕ} {n : ℕ} {p : Pdu} (a : Apart f n p) where
   -- The byte that the header ends in is in the frame.
   pub ends-inside : headerEnd p .byte ≤ length f
@@ -277,12 +283,19 @@ module _ {f : List ℕ} {n : ℕ} {p : Pdu} (a : Apart f n p) where
   read-is e = sym (rw (le-leb n (length (bits f)) (a .fits)) (ap (framed n) e))
 
   pub unchecked : hasFcs p ≡ false → answered (Read.Frame p (sduOf n p)) ≡ readFrom (bits f) n
-  unchecked h = read-is {o = accepted (record { header = p; sdu = behind p (take n (bits f)) })} (a .asks ∙ rw h)
+  unchecked h = read-is {o = accepted (partsOf p (take n (bits f)))} (a .asks ∙ rw h)
 
   pub right : accepted tt ≡ checkBehind f p (n - length (header p)) → answered (Read.Frame p (sduOf n p)) ≡ readFrom (bits f) n
   right e =
       let yes = accepted-passed 12 (checks (behind p (take n (bits f)))) (e ∙ a .check) .0 in
-      read-is {o = accepted (record { header = p; sdu = behind p (take n (bits f)) })} (a .asks ∙ rw (yes, or-true (not (hasFcs p))))
+      read-is {o = accepted (partsOf p (take n (bits f)))} (a .asks ∙ rw (yes, or-true (not (hasFcs p))))
+
+  -- Then the check bits are there.
+  pub long : accepted tt ≡ checkBehind f p (n - length (header p)) → fcsBits ≤ n - length (header p)
+  long e =
+      let b = accepted-passed 12 (checks (behind p (take n (bits f)))) (e ∙ a .check) .0 in
+      omega
+      (arith, checks-long (behind p (take n (bits f))) b, length-drop (length (header p)) (take n (bits f)), length-take-le n (bits f) (a .fits))
 
   pub wrong : hasFcs p ≡ true → refused 12 ≡ checkBehind f p (n - length (header p)) → answered (Read.Refused 12) ≡ readFrom (bits f) n
   wrong h e =

@@ -5,7 +5,7 @@ use lib.Dec.{leb}
 use lib.ListN.{length, take}
 use Rattle.questions.specs.Outcome.{Outcome, accepted, refused, ask}
 use Rattle.llc_pdus.specs.Headers.{Reading, reading, header}
-use Rattle.llc_pdus.specs.Received.{Received, received}
+use Rattle.llc_pdus.specs.Received.{Received, checkBits, received}
 use Rattle.llc_pdus.specs.Sdus.{sduAt}
 use Rattle.llc_pdus.specs.declared.headers.Head.{Head}
 use Rattle.llc_pdus.specs.declared.Pdu.{Pdu}
@@ -34,18 +34,20 @@ written (Written.Bits n) = accepted n
 written Written.OutOfRange = refused 5
 written Written.NoRoom = refused 8
 
--- The header of the first n of the bits l: question 5 asks whether there are so many.
-abbrev pub pduOf : Outcome Reading → Outcome Pdu
-pduOf (accepted r) = accepted (r .pdu)
-pduOf (refused k) = refused k
+-- The PDU that a header is.
+abbrev pub pduIn : Outcome Reading → Outcome Pdu
+pduIn (accepted r) = accepted (r .pdu)
+pduIn (refused k) = refused k
 
+-- Reading the header of the first n of the bits l: question 5 asks whether there are so many.
 abbrev pub headFrom : List ℕ → ℕ → Outcome Pdu
-headFrom l n = ask 5 (leb n (length l)) (pduOf (reading (take n l)))
+headFrom l n = ask 5 (leb n (length l)) (pduIn (reading (take n l)))
 
--- Where the SDU of a frame of n bits lies: behind the header.
+-- Where the SDU of a frame of n bits lies: behind the header, and before the check bits.
 abbrev pub sduOf : ℕ → Pdu → Sdu
-sduOf n p = sduAt (length (header p)) (n - length (header p))
+sduOf n p = sduAt (length (header p)) (n - length (header p) - checkBits p)
 
+-- A frame of n bits that was received, by where its SDU lies.
 abbrev pub framed : ℕ → Outcome Received → Outcome Frame
 framed n (accepted r) = accepted (record { pdu = r .header; sdu = sduOf n (r .header) })
 framed n (refused k) = refused k

@@ -11,10 +11,11 @@ use crate::headers::header_end;
 use crate::headers::header_len;
 use crate::headers::read_header;
 use fcs::Checked;
+use fcs::FCS_BITS;
 use fcs::check_fcs;
 
-/// The PDU of a frame of so many bits, and where its SDU lies. The check is lent the bytes from the header's last byte onwards,
-/// and runs over all bits behind the header.
+/// The PDU of a frame of so many bits, and where its SDU lies, which ends before the check bits where the FCS flag is set. The
+/// check is lent the bytes from the header's last byte onwards, and told how many bits stand behind the header.
 pub fn from_bitbuf(frame: &[u8], len: usize) -> Read
     ensures { λ r. ⌜ answered r ≡ readFrom (bits (now (frame .entry))) len ⌝ }
 {
@@ -28,7 +29,7 @@ pub fn from_bitbuf(frame: &[u8], len: usize) -> Read
             let end = header_end(pdu);
             let k = end.byte;
             match check_fcs(&frame[k..], end.bits, behind) {
-                Checked::Right => Read::Frame(pdu, sdu_at(first, behind)),
+                Checked::Right => Read::Frame(pdu, sdu_at(first, behind - FCS_BITS)),
                 Checked::Wrong => Read::Refused(12),
                 Checked::OutOfRange => Read::Refused(5),
             }

@@ -1,15 +1,18 @@
--- The theorems applied to the instance: two requests that change places, and a request that is handed down four times.
+-- The theorems applied to the instance: two requests that change places, a request that is handed down four times, and a text and an
+-- acknowledgement that come with check bits.
 use Prim.Native.Nat.{ℕ, zero, suc, _<_}
 use native.Mathlib.Omega.{arith}
 use mathlib.Core.Path.{_≡_, _∙_, refl, ap}
-use mathlib.Core.Bool.{true}
+use mathlib.Core.Bool.{true, false}
 use mathlib.Core.List.{List, [], _∷_, _++_}
 use mathlib.Core.Option.{some}
 use borrow.Author.Tests.{ltb-true}
 use lib.Dec.{eqb, ltb}
 use lib.ListN.{length, getD, take, drop}
-use Rattle.questions.specs.Outcome.{number}
-use Rattle.llc_rule.specs.Calls.{toBytes, Request}
+use Rattle.questions.specs.Outcome.{accepted, number}
+use Rattle.llc_pdus.specs.Received.{wholeFrame}
+use Rattle.llc_pdus.specs.declared.Pdu.the-variants.{BlData, BlAck}
+use Rattle.llc_rule.specs.Calls.{toBytes, Request, Frame, frame, frameIn, parsed}
 use Rattle.llc_rule.specs.Link.{Link, new}
 use Rattle.llc_rule.specs.Step.{step}
 use Rattle.llc_rule.specs.Rule.{atFirst, dueOn, requested, afterData, afterUnitdata, afterStart, looked, submitted, resent, sentFirst, atTickEnd, theOne, afterReceived, afterFrame, stillWaits, afterReport, stillHeld, afterRelease, does, judged, rule}
@@ -17,12 +20,14 @@ use Rattle.llc_rule.specs.Runs.{Exchange, exchange, left, run, after}
 use Rattle.llc_rule.specs.Past.{about, belongsTo, doneTo, holders, whose, inPast, nothingYet, andThen, history}
 use Rattle.llc_rule.specs.Seen.{ruleRun, ruled, SeesTheSame}
 use Rattle.llc_rule.specs.Sendings.{requestSpelled, handed, sendings, AtMostFour}
+use Rattle.llc_rule.specs.Texts.{textsIn}
 use Rattle.llc_rule.specs.Claim.{whoseAfter}
 use Rattle.llc_rule.proofs.Swap.{swap}
 use Rattle.llc_rule.proofs.Sendings.{four-run}
 use Rattle.llc_rule.proofs.SendingsByRule.{four-ruled}
+use Rattle.llc_rule.proofs.Texts.{text-up}
 use Rattle.llc_rule.proofs.Runs.{exchanges}
-use Rattle.llc_rule.proofs.Instance.{first, second, askFirst, askSecond, openingCalls, laterCalls, instanceCalls, turnedCalls, unhindered-instance, unhindered-turned}
+use Rattle.llc_rule.proofs.Instance.{first, second, askFirst, askSecond, textOfFirst, ackOfFirst, openingCalls, laterCalls, instanceCalls, turnedCalls, unhindered-instance, unhindered-turned}
 
 -- Whose the two requests are, in either order.
 pub whose-first : whoseAfter (run new openingCalls) askFirst ≡ belongsTo first
@@ -116,6 +121,45 @@ four-instance =
 pub four-times : eqb (length (sendings 0x22 (run (left asked (step asked askSecond)) laterCalls))) 4 ≡ true
 unfolding sendings handed doneTo about run after toBytes exchanges openingCalls laterCalls
 four-times = refl
+
+-- Two calls of it, put to the link after the first request: a text that comes with its check bits goes up without them, and an
+-- acknowledgement with an FCS and nothing else sends nothing up.
+abbrev pub text : List ℕ
+text = 1 ∷ 0 ∷ 0 ∷ 1 ∷ 1 ∷ 1 ∷ 0 ∷ []
+
+abbrev frameOf : List ℕ → Frame
+frameOf c = frameIn (drop 3 c)
+
+pub text-spelled : parsed textOfFirst ≡ accepted (frame (frameOf textOfFirst))
+unfolding exchanges toBytes
+text-spelled = refl
+
+pub text-framed : frameOf textOfFirst .pdu ≡ wholeFrame (BlData true true) text
+unfolding exchanges toBytes wholeFrame
+text-framed = refl
+
+pub text-accepted : number (step asked textOfFirst) ≡ 0
+unfolding exchanges toBytes openingCalls after
+text-accepted = refl
+
+pub text-instance : textsIn (exchange textOfFirst (step asked textOfFirst) .records) ≡ text ∷ []
+text-instance =
+    text-up asked textOfFirst .up (frameOf textOfFirst) (BlData true true) text text-spelled text-framed text-accepted
+
+pub ack-spelled : parsed ackOfFirst ≡ accepted (frame (frameOf ackOfFirst))
+unfolding exchanges toBytes
+ack-spelled = refl
+
+pub ack-framed : frameOf ackOfFirst .pdu ≡ wholeFrame (BlAck true false) []
+unfolding exchanges toBytes wholeFrame
+ack-framed = refl
+
+pub ack-accepted : number (step asked ackOfFirst) ≡ 0
+unfolding exchanges toBytes openingCalls after
+ack-accepted = refl
+
+pub ack-instance : textsIn (exchange ackOfFirst (step asked ackOfFirst) .records) ≡ []
+ack-instance = text-up asked ackOfFirst .up (frameOf ackOfFirst) (BlAck true false) [] ack-spelled ack-framed ack-accepted
 
 -- What the rule answers on the past of the second address, with all opened that it computes by.
 unfoldable pub answers : List Exchange

@@ -11,6 +11,7 @@ use Rattle.llc_rule.proofs.Demand3.{demand3}
 use Rattle.llc_rule.proofs.Swap.{swap}
 use Rattle.llc_rule.proofs.UnderWay.{one-under-way, one-among-held}
 use Rattle.llc_rule.proofs.WhereTransmitted.{where-transmitted, where-transmitted-by-rule}
+use Rattle.llc_rule.proofs.Texts.{texts-run}
 use Rattle.llc_rule.proofs.Sendings.{four-run}
 use Rattle.llc_rule.proofs.SendingsByRule.{four-ruled}
 
@@ -30,6 +31,7 @@ claims =
       oneAmongHeld = one-among-held;
       whereTransmitted = where-transmitted;
       whereTransmittedByRule = where-transmitted-by-rule;
+      texts = texts-run new;
       four = four-run;
       fourByRule = four-ruled;
     }

@@ -16,11 +16,11 @@ use Rattle.llc_pdus.specs.declared.Pdu.{Pdu}
 use Rattle.llc_pdus.specs.declared.Pdu.the-variants.{BlAdata, BlData, BlUdata, BlAck}
 use Rattle.llc_pdus.proofs.Laws.{header-short}
 use Rattle.llc_pdus.proofs.Framing.{all-header, frame-short, all-frame}
+use Rattle.llc_pdus.specs.Received.{Received}
+use Rattle.llc_pdus.proofs.Received.{sdu-short, sdu-bits}
 use Rattle.llc_rule.specs.Calls.{Call, start, tickStart, tickEnd, request, frame, byReceipt, Request, Frame, parsed}
 use Rattle.llc_rule.specs.Ranges.{hasMask, requestInRange, frameInRange}
 use Rattle.llc_rule.specs.Records.{Record, acknowledged, unacknowledged}
-use Rattle.llc_pdus.specs.Received.{Received}
-use Rattle.llc_pdus.proofs.Received.{sdu-short, sdu-bits}
 use Rattle.llc_rule.specs.Upward.{indication, upward}
 use Rattle.llc_rule.specs.Messages.{Due, stealsSlot, replyTo, carrierOf, sentOf}
 use Rattle.llc_rule.specs.Link.{Link, new}

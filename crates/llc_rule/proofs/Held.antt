@@ -13,10 +13,10 @@ use Rattle.lists.proofs.Choices.{either}
 use Rattle.questions.specs.Outcome.{accepted}
 use Rattle.tdma_time.specs.declared.TdmaTime.{TdmaTime}
 use Rattle.llc_pdus.specs.declared.Pdu.{Pdu}
+use Rattle.llc_pdus.specs.Headers.{nsOf, nrOf}
 use Rattle.llc_rule.specs.Calls.{Call, start, tickStart, tickEnd, request, frame, byReceipt, Frame, parsed}
 use Rattle.llc_rule.specs.Ranges.{requestInRange, frameInRange}
 use Rattle.llc_rule.specs.Records.{Record, acknowledged, Sent}
-use Rattle.llc_pdus.specs.Headers.{nsOf, nrOf}
 use Rattle.llc_rule.specs.Messages.{Message, Due, Place, placeAt, taken?, reported, hasTime, overdue, slotBefore, carrierOf, sentOf}
 use Rattle.llc_rule.specs.Link.{Link, startedWith, withReceipts, dueNow}
 use Rattle.llc_rule.specs.Step.{dueFor, withAcknowledged, withUnacknowledged, withDue, awaiting, fits, answeredBy, answered, stay, timed, agedBy, retransmission, Sending, firstSending, retransmissions, firstSendings, onTickEnd, step}

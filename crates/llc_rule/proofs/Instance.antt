@@ -45,14 +45,22 @@ askFirst = hex 32 0x24001d0a3e9101012a6b102132435465768798a9bacb040d1102c5d6000c
 abbrev pub askSecond : List ℕ
 askSecond = hex 33 0x24001e5bc72d01000000f1e2d3c4b5a69788796a5b4c000022033d2e1f0009a580
 
+-- A text with an FCS from the first address, and an acknowledgement with an FCS and nothing else.
+abbrev pub textOfFirst : List ℕ
+textOfFirst = hex 29 0x26001a0a3e91013c4d5e6f708192a3b4c503d6e7f8002c5ce2f0c8fd80
+
+abbrev pub ackOfFirst : List ℕ
+ackOfFirst = hex 25 0x2600160a3e91012a6b4e5f60718293a4b50000257000000000
+
 -- What follows, where the first tick end hands the two down in the order that they were asked for.
 unfoldable pub following : List ℕ → List ℕ → List Told
 following one other =
-    -- A report for a message that waits; an unacknowledged message; an SDU for each address, of which one asks for a reply.
+    -- A report for a message that waits; an unacknowledged message; an SDU for each address, of which one has an FCS and
+    -- asks for a reply.
     hex 5 0x2700021101 gets 15
     ∷ hex 31 0x25001c0a3e9102017c8d0e1f2031425364758697a8b9050b3302cadb0007ca gets 0
-    ∷ hex 25 0x2600160a3e91013c4d5e6f708192a3b4c503d6e7f8000c1ce0 gets 0
-    and hex 44 0x010001040200030a3e91030001010500045e6f708106000492a3b4c50b0003d6e7f80d0001000c000300079c
+    ∷ textOfFirst gets 0
+    and hex 44 0x010001040200030a3e91030001010500045e6f708106000492a3b4c50b0003d6e7f80d0001010c000300079c
     ∷ hex 23 0x2600145bc72d011a2b3c4d5e6f708192a301b4000d2d28 gets 0
     and hex 43 0x010001050200035bc72d0300010105000400000000060004708192a30b0001b40d0001000c00040009d280
     ∷ hex 3 0x230000 gets 0 and one and other
@@ -67,11 +75,11 @@ following one other =
     ∷ hex 21 0x2600125bc72d0105fac6d7e8f90a1b2c3d00000538 gets 0
     ∷ hex 8 0x2200051234150801 gets 0
     ∷ hex 3 0x230000 gets 0 and toSecond and toFirst
-    -- The first is reported again, noted, acknowledged by an N(R) that fits, and released; so is the unacknowledged one.
+    -- The first is reported again, noted, acknowledged by a BL-ACK with FCS and nothing else, and released; so is the unacknowledged one.
     ∷ hex 5 0x2700021101 gets 0
     ∷ hex 5 0x2700022202 gets 0
     ∷ hex 3 0x230000 gets 0
-    ∷ hex 21 0x2600120a3e91012a6b4e5f60718293a4b500000530 gets 0
+    ∷ ackOfFirst gets 0
     ∷ hex 4 0x28000111 gets 0
     ∷ hex 5 0x2700023301 gets 0
     ∷ hex 4 0x28000133 gets 0

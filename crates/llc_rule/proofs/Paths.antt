@@ -17,10 +17,10 @@ use Rattle.tdma_time.specs.declared.TdmaTime.{TdmaTime}
 use Rattle.llc_pdus.specs.Headers.{Reading, reading, hasFcs, one, kindAt, lengthOf, nsOf, nrOf}
 use Rattle.llc_pdus.specs.declared.Pdu.{Pdu}
 use Rattle.llc_pdus.specs.declared.Pdu.the-variants.{BlUdata, BlAck}
+use Rattle.llc_pdus.specs.Received.{Received, checks, checked, received}
 use Rattle.llc_rule.specs.Calls.{Call, start, tickStart, tickEnd, request, frame, byReceipt, Service, tlData, tlUnitdata, Action, report, release, Request, Frame, isStart, Tag, tag21, tag22, tag23, tag24, tag25, tag26, tag27, tag28, unknown, tagOf, filledFrom, inner, filled, parsed}
 use Rattle.llc_rule.specs.Ranges.{steals, wantsFcs, isReceipt, requestInRange, frameInRange, actionInRange, inRange}
 use Rattle.llc_rule.specs.Records.{Record}
-use Rattle.llc_pdus.specs.Received.{Received, checks, checked, received}
 use Rattle.llc_rule.specs.Upward.{upward}
 use Rattle.llc_rule.specs.Messages.{Due, free, mark, markOf}
 use Rattle.llc_rule.specs.Done.{Done, done}

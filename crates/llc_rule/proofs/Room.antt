@@ -13,12 +13,12 @@ use Rattle.tdma_time.specs.declared.TdmaTime.{TdmaTime}
 use Rattle.llc_pdus.specs.declared.Pdu.{Pdu}
 use Rattle.llc_pdus.specs.declared.Pdu.the-variants.{BlAdata, BlData, BlUdata, BlAck}
 use Rattle.llc_pdus.proofs.Framing.{frame-short}
+use Rattle.llc_pdus.specs.Received.{Received}
+use Rattle.llc_pdus.proofs.Received.{sdu-short}
 use Rattle.llc_rule.specs.Limits.{longestFrame, outputBytes}
 use Rattle.llc_rule.specs.Calls.{Call, start, tickStart, tickEnd, request, frame, byReceipt, Request, Frame}
 use Rattle.llc_rule.specs.Ranges.{requestInRange}
 use Rattle.llc_rule.specs.Records.{Record, acknowledged, unacknowledged, Sent, Indication, indicationBytes, bytes, allBytes}
-use Rattle.llc_pdus.specs.Received.{Received}
-use Rattle.llc_pdus.proofs.Received.{sdu-short}
 use Rattle.llc_rule.specs.Upward.{indication, upward}
 use Rattle.llc_rule.specs.Messages.{Message, Due, sentOf, Place, overdue, replyTo}
 use Rattle.llc_rule.specs.Link.{Link, new}

@@ -9,6 +9,7 @@ pub mod Widths
 pub mod Ranges
 pub mod Orders
 pub mod Checks
+pub mod CheckBits
 use Prim.Native.Nat.{ℕ, zero, suc}
 use mathlib.Core.Bool.{Bool, true, false, _&&_}
 use mathlib.Core.List.{List, [], _∷_, _++_, map}
@@ -21,10 +22,10 @@ use Rattle.llc_pdus.specs.Headers.{reading}
 use Rattle.llc_pdus.specs.Writes.{frameBits}
 use Rattle.fcs.specs.Polynomials.{plus, divisor, rest}
 use Rattle.fcs.specs.Fcs.{start, fcs}
+use Rattle.llc_pdus.specs.Received.{checks, checked, received}
 use Rattle.llc_rule.specs.Calls.{fromBytes, toBytes, filledFrom, requestIn, frameIn, tagOf, inner, filled, parsed}
 use Rattle.llc_rule.specs.Records.{Record, packed, counted, masked, countedIfAny, sentBytes, replyBytes, indicationBytes, bytes}
 use Rattle.llc_rule.specs.Ranges.{requestInRange, frameInRange, inRange}
-use Rattle.llc_pdus.specs.Received.{checks, checked, received}
 use Rattle.llc_rule.specs.Upward.{upward}
 use Rattle.llc_rule.specs.Messages.{noReceipts, overdue, slotBefore, replyTo, sentOf}
 use Rattle.llc_rule.specs.Link.{Link, new, startedWith}

@@ -11,11 +11,11 @@ use Rattle.lists.proofs.Choices.{by-test, both, clash}
 use Rattle.questions.specs.Outcome.{Outcome, accepted, refused, ask, number}
 use Rattle.questions.proofs.Asked.{by-question}
 use Rattle.llc_pdus.specs.declared.Pdu.the-variants.{BlUdata}
+use Rattle.llc_pdus.specs.Headers.{nsOf}
+use Rattle.llc_pdus.specs.Received.{Received, received}
 use Rattle.llc_rule.specs.Calls.{Call, start, tickStart, tickEnd, request, frame, byReceipt, tlData, tlUnitdata, report, release, Request, Frame}
 use Rattle.llc_rule.specs.Ranges.{isReceipt, inRange}
 use Rattle.llc_rule.specs.Records.{Record}
-use Rattle.llc_pdus.specs.Headers.{nsOf}
-use Rattle.llc_pdus.specs.Received.{Received, received}
 use Rattle.llc_rule.specs.Done.{done}
 use Rattle.llc_rule.specs.Messages.{noReceipts, markOf}
 use Rattle.llc_rule.specs.Link.{Link, startedWith}

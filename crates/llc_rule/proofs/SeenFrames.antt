@@ -13,10 +13,10 @@ use Rattle.questions.specs.Outcome.{accepted}
 use Rattle.tx_receipt.specs.Marks as Marks
 use Rattle.llc_pdus.specs.declared.Pdu.{Pdu}
 use Rattle.llc_pdus.specs.declared.Pdu.the-variants.{BlAdata, BlData, BlUdata, BlAck}
-use Rattle.llc_rule.specs.Calls.{Frame}
-use Rattle.llc_rule.specs.Records.{Record, dataUp, ssiOf}
 use Rattle.llc_pdus.specs.Headers.{nsOf, nrOf}
 use Rattle.llc_pdus.specs.Received.{Received}
+use Rattle.llc_rule.specs.Calls.{Frame}
+use Rattle.llc_rule.specs.Records.{Record, dataUp, ssiOf}
 use Rattle.llc_rule.specs.Upward.{indication, unlessEmpty, upward}
 use Rattle.llc_rule.specs.Messages.{Message, Due, Place, mark, slotBefore}
 use Rattle.llc_rule.specs.Link.{Link, acknowledgedNow, dueNow, withReceipts}

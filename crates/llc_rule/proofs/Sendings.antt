@@ -15,9 +15,9 @@ use Rattle.questions.specs.Outcome.{number}
 use Rattle.tdma_time.specs.declared.TdmaTime.{TdmaTime}
 use Rattle.llc_pdus.specs.declared.Pdu.{Pdu}
 use Rattle.llc_pdus.specs.declared.Pdu.the-variants.{BlAdata, BlData, BlUdata, BlAck}
+use Rattle.llc_pdus.specs.Headers.{nsOf, nrOf}
 use Rattle.llc_rule.specs.Calls.{Request, Frame}
 use Rattle.llc_rule.specs.Records.{Record, acknowledged, reply, unacknowledged, dataUp, unitdataUp, Sent}
-use Rattle.llc_pdus.specs.Headers.{nsOf, nrOf}
 use Rattle.llc_rule.specs.Upward.{upward}
 use Rattle.llc_rule.specs.Messages.{Message, waiting, submittedAfter, doneAt, hasTime, overdue, Due, replyTo, Place, free, placeAt, isFree, taken?, reported, carrierOf, sentOf}
 use Rattle.llc_rule.specs.Link.{Link, bitOf, new, startedWith, dueNow}

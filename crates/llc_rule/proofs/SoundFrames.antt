@@ -13,9 +13,9 @@ use Rattle.lists.proofs.Lists.{all-map, none-counted, FoundBy, find-by, count-y
 use Rattle.lists.proofs.Choices.{by-test, both}
 use Rattle.tx_receipt.specs.Marks as Marks
 use Rattle.tx_receipt.specs.Marks.{Mark}
-use Rattle.llc_rule.specs.Calls.{Frame}
 use Rattle.llc_pdus.specs.Headers.{nsOf, nrOf}
 use Rattle.llc_pdus.specs.Received.{Received}
+use Rattle.llc_rule.specs.Calls.{Frame}
 use Rattle.llc_rule.specs.Records.{Sent}
 use Rattle.llc_rule.specs.Messages.{Message, Due, mark}
 use Rattle.llc_rule.specs.Link.{Link, acknowledgedNow, dueNow, withReceipts}

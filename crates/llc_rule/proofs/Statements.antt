@@ -5,12 +5,15 @@ use mathlib.Core.Bool.{true, false}
 use mathlib.Core.List.{List, [], _∷_, map}
 use mathlib.Core.Option.{Option, none, some}
 use lib.Dec.{eqb}
-use lib.ListN.{length, set}
+use lib.ListN.{length, set, replicate}
 use Rattle.lists.specs.Lists.{keep, any, all}
 use Rattle.questions.specs.Outcome.{number}
 use Rattle.tx_receipt.specs.Marks.{discarded}
 use Rattle.tx_receipt.specs.declared.TxState.the-variants.{Transmitted}
+use Rattle.llc_pdus.specs.Received.{wholeFrame}
 use Rattle.llc_pdus.specs.Writes.{longest}
+use Rattle.llc_pdus.specs.declared.Pdu.{Pdu}
+use Rattle.llc_pdus.specs.declared.Pdu.the-variants.{BlAdata, BlData, BlUdata, BlAck}
 use Rattle.llc_rule.specs.Limits.{longestFrame, storeBytes, outputBytes}
 use Rattle.llc_rule.specs.Calls.{toBytes}
 use Rattle.llc_rule.specs.Records.{Record, acknowledged, reply, unacknowledged, dataUp, unitdataUp, Sent, Indication}
@@ -22,6 +25,7 @@ use Rattle.llc_rule.specs.Runs.{Exchange, after}
 use Rattle.llc_rule.specs.Past.{about, Holders, nobody, doneTo, holders, everybody's, nobody's, belongsTo, whose, inPast, nothingYet, andThen, history, past, strays, holdersAfter, sight, heldBy, takenFrom}
 use Rattle.llc_rule.specs.Seen.{ruleRun, unhindered}
 use Rattle.llc_rule.specs.Sendings.{handed, sendings}
+use Rattle.llc_rule.specs.Texts.{textsIn, shown}
 use Rattle.llc_rule.proofs.Runs.{hex, exchanges}
 
 -- Two addresses, and calls of the first: a request with receipt 11, a frame, and a report and a release of receipt 11.
@@ -234,6 +238,37 @@ sent-while-held :
     ≡ 4 ∷ 6 ∷ 4 ∷ 4 ∷ 4 ∷ 4 ∷ 4 ∷ 4 ∷ 2 ∷ 2 ∷ 4 ∷ 2 ∷ []
 unfolding sendings doneTo about handed toBytes exchanges
 sent-while-held = refl
+
+-- What goes up: the SDUs of kinds 4 and 5, in order, empty ones too.
+abbrev bringing : List ℕ → Indication
+bringing sdu = record { ssi = first; type = 1; link = 0; endpoint = 0x92a3b4c5; block = []; fcs = true; sdu = sdu }
+
+texts-brought :
+    textsIn
+    (acknowledged (message first 0x11) ∷ dataUp (bringing (1 ∷ 0 ∷ [])) ∷ answer first ∷ unitdataUp (bringing (0 ∷ 1 ∷ 1 ∷ []))
+    ∷ unacknowledged (message first 0x12) ∷ dataUp (bringing []) ∷ [])
+    ≡ (1 ∷ 0 ∷ []) ∷ (0 ∷ 1 ∷ 1 ∷ []) ∷ [] ∷ []
+unfolding textsIn
+texts-brought = refl
+
+-- What should go up of each PDU, with a text and without one.
+abbrev pdus : List Pdu
+pdus = BlAdata true false true ∷ BlData true true ∷ BlUdata true ∷ BlAck true false ∷ []
+
+texts-shown :
+    map (λ (p : Pdu). shown p (1 ∷ 0 ∷ [])) pdus
+    ≡ ((1 ∷ 0 ∷ []) ∷ []) ∷ ((1 ∷ 0 ∷ []) ∷ []) ∷ ((1 ∷ 0 ∷ []) ∷ []) ∷ ((1 ∷ 0 ∷ []) ∷ []) ∷ []
+texts-shown = refl
+
+none-shown : map (λ (p : Pdu). shown p []) pdus ≡ ([] ∷ []) ∷ ([] ∷ []) ∷ ([] ∷ []) ∷ [] ∷ []
+none-shown = refl
+
+-- Document 01's frame of 010111 and 32 ones, and the same text without the flag.
+frames-whole :
+    wholeFrame (BlData true true) (1 ∷ []) ∷ wholeFrame (BlData false true) (1 ∷ []) ∷ []
+    ≡ (0 ∷ 1 ∷ 0 ∷ 1 ∷ 1 ∷ 1 ∷ replicate 32 1) ∷ (0 ∷ 0 ∷ 0 ∷ 1 ∷ 1 ∷ 1 ∷ []) ∷ []
+unfolding wholeFrame exchanges
+frames-whole = refl
 
 -- The rule answers each call from what it kept of those before it.
 rule-answers :

@@ -2,6 +2,7 @@
 use Prim.Native.Nat.{ℕ, suc, _+_, _^_, _≤_, _<_}
 use native.Mathlib.Nat.{pow-succ', pow-le-pow-right}
 use native.Mathlib.Omega.{arith}
+use mathlib.Core.Path.{_≡_, subst}
 use mathlib.Core.List.{List, [], _∷_}
 use lib.Arith.{digits-lt}
 use lib.Dec.{eqb}
@@ -101,6 +102,36 @@ inner-fits tag26 v a = by-question CallFitsIn 2 (filledFrom v 14) tt (λ e. fram
 inner-fits tag27 v a = by-question CallFitsIn 2 (eqb (length v) 2) tt (λ e. tt)
 inner-fits tag28 v a = by-question CallFitsIn 2 (eqb (length v) 1) tt (λ e. tt)
 inner-fits unknown v a = tt
+
+-- The bits of a frame are bits, whatever numbers its call has.
+abbrev FrameBits : Call → Type 0
+FrameBits (start carrier t251) = Unit {0}
+FrameBits (tickStart time) = Unit {0}
+FrameBits tickEnd = Unit {0}
+FrameBits (request s r) = Unit {0}
+FrameBits (frame f) = AllBits (f .pdu)
+FrameBits (byReceipt i a) = Unit {0}
+
+abbrev BitsIn : Outcome Call → Type 0
+BitsIn (accepted c) = FrameBits c
+BitsIn (refused n) = Unit {0}
+
+inner-bits : (t : Tag) (v : List ℕ) → BitsIn (inner t v)
+unfolding inner frameIn
+inner-bits tag21 v = by-question BitsIn 2 (eqb (length v) 4) tt (λ e. tt)
+inner-bits tag22 v = by-question BitsIn 2 (eqb (length v) 5) tt (λ e. tt)
+inner-bits tag23 v = by-question BitsIn 2 (eqb (length v) 0) tt (λ e. tt)
+inner-bits tag24 v = by-question BitsIn 2 (filledFrom v 22) tt (λ e. tt)
+inner-bits tag25 v = by-question BitsIn 2 (filledFrom v 22) tt (λ e. tt)
+inner-bits tag26 v = by-question BitsIn 2 (filledFrom v 14) tt (λ e. bits-at v 14)
+inner-bits tag27 v = by-question BitsIn 2 (eqb (length v) 2) tt (λ e. tt)
+inner-bits tag28 v = by-question BitsIn 2 (eqb (length v) 1) tt (λ e. tt)
+inner-bits unknown v = tt
+
+pub frame-bits : (bytes : List ℕ) (f : Frame) → parsed bytes ≡ accepted (frame f) → AllBits (f .pdu)
+unfolding parsed
+frame-bits bytes f e =
+    subst BitsIn e (by-question BitsIn 2 (filled bytes) tt (λ q. inner-bits (tagOf (getD bytes 0 0)) (drop 3 bytes)))
 
 -- The values of any call.
 pub parsed-fits : (bytes : List ℕ) → All IsByte bytes → CallFitsIn (parsed bytes)

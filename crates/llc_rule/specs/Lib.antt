@@ -13,5 +13,6 @@ pub mod Past
 pub mod Sound
 pub mod Seen
 pub mod Sendings
+pub mod Texts
 pub mod Claim
 pub mod Sizes

@@ -14,11 +14,11 @@ use Rattle.tx_receipt.specs.Marks.{allowed}
 use Rattle.tx_receipt.specs.declared.TxState.the-variants.{Pending}
 use Rattle.llc_pdus.specs.declared.Pdu.{Pdu}
 use Rattle.llc_pdus.specs.declared.Pdu.the-variants.{BlAdata, BlData, BlUdata, BlAck}
+use Rattle.llc_pdus.specs.Headers.{nsOf, nrOf}
+use Rattle.llc_pdus.specs.Received.{Received, received}
 use Rattle.llc_rule.specs.Calls.{Call, start, tickStart, tickEnd, request, frame, byReceipt, Service, tlData, tlUnitdata, Action, report, release, Request, Frame, isStart, parsed}
 use Rattle.llc_rule.specs.Ranges.{steals, wantsFcs, inRange}
 use Rattle.llc_rule.specs.Records.{Record, acknowledged, unacknowledged, Sent}
-use Rattle.llc_pdus.specs.Headers.{nsOf, nrOf}
-use Rattle.llc_pdus.specs.Received.{Received, received}
 use Rattle.llc_rule.specs.Upward.{upward}
 use Rattle.llc_rule.specs.Messages.{Message, waiting, submittedAfter, doneAt, hasTime, overdue, Due, slotBefore, replyTo, Place, free, placeAt, isFree, pending, taken?, mark, markOf, reported, carrierOf, sentOf}
 use Rattle.llc_rule.specs.Done.{Done, done}

@@ -12,7 +12,7 @@ abbrev pub indication : Frame → Pdu → ℕ → List ℕ → Indication
 indication f p link sdu =
     record { ssi = f .ssi; type = f .type; link = link; endpoint = f .endpoint; block = f .block; fcs = hasFcs p; sdu = sdu }
 
--- "But BL-ACK with nothing left sends nothing up."
+-- "But BL-ACK with nothing left sends nothing up", so too "a BL-ACK with FCS and nothing else".
 abbrev pub unlessEmpty : List ℕ → Record → List Record
 unlessEmpty [] r = []
 unlessEmpty (b ∷ l) r = r ∷ []

@@ -7,11 +7,15 @@ use mathlib.Core.Option.{some}
 use borrow.Author.Tests.{eqb-true}
 use lib.Dec.{eqb}
 use lib.ListN.{length}
-use Rattle.lists.specs.Lists.{keep, All}
+use Rattle.lists.specs.Lists.{keep, among, All}
+use Rattle.lists.proofs.Lists.{all-back}
 use Rattle.lists.proofs.Choices.{by-test, if-true, if-false, clash}
 use Rattle.bits.proofs.Laws.{length-bits}
+use Rattle.questions.specs.Outcome.{accepted}
+use Rattle.llc_pdus.specs.Received.{wholeFrame}
+use Rattle.llc_pdus.specs.declared.Pdu.{Pdu}
 use Rattle.llc_rule.specs.Limits.{storeBytes}
-use Rattle.llc_rule.specs.Calls.{Request}
+use Rattle.llc_rule.specs.Calls.{Request, Frame, frame, parsed}
 use Rattle.llc_rule.specs.Link.{Link, new}
 use Rattle.llc_rule.specs.Rule.{atFirst}
 use Rattle.llc_rule.specs.Runs as Rule
@@ -20,6 +24,7 @@ use Rattle.llc_rule.specs.Past.{belongsTo, whose, History, historyOf, holdersAf
 use Rattle.llc_rule.specs.Seen.{ruleRun, ruleSights, ruleAfter, calls, unhindered, SeesItsOwnPast, SeesTheSame, countUnderWay, MarkedWhereTransmitted}
 use Rattle.llc_rule.specs.Claim.{whoseAfter, Claims}
 use Rattle.llc_rule.specs.Sound.{ofAddress}
+use Rattle.llc_rule.specs.Texts.{textsIn, shown as shownOf, Framed, TextGoesUp}
 use Rattle.llc_rule.specs.Sendings.{requestSpelled, sendings, AtMostFour, EachAtMostFour}
 use Rattle.llc_rule.proofs.Paths.{not-one}
 use Rattle.llc_rule.proofs.Claim.{claims}
@@ -30,7 +35,7 @@ use Rattle.llc_runs.specs.Runs.{Lent, Station, begin, left, exchange, ru
 use Rattle.llc_runs.specs.Heard.{lentEnough, fitting, putTo}
 use Rattle.llc_runs.specs.Outputs.{ReadOff}
 use Rattle.llc_runs.specs.Claim.{linkAt, receiptsAfter, messagesAfter, InRange, Claim}
-use Rattle.llc_runs.proofs.Ones.{history-heard, unhindered-heard, four-heard}
+use Rattle.llc_runs.proofs.Ones.{history-heard, unhindered-heard, four-heard, texts-heard}
 use Rattle.llc_runs.proofs.Runs.{silent, run-split, Asked, asks, asks-not, fitting-append, fitting-yes, fitting-no, follows, wrong-is, stuck, begin-right, begin-wrong, as-step}
 use Rattle.llc_runs.proofs.Outputs.{shown, readable, only, lines}
 
@@ -270,6 +275,8 @@ runs store =
           All (MarkedWhereTransmitted (ruleAfter atFirst (calls (k .past a)) .receipts))
           (ruleAfter atFirst (calls (k .past a)) .acknowledged))
           (claims .whereTransmittedByRule (putTo store cs) (on-link store cs u) a);
+      texts =
+          λ cs. texts-heard (run (begin store) cs) (subst (All TextGoesUp) (sym (as-step store cs .heard)) (claims .texts (putTo store cs)));
       four =
           λ cs.
           four-heard (run (begin store) cs) (silent (begin store) cs)
@@ -293,6 +300,38 @@ four-later store before c r later n q =
     (run-split (begin store) before c later)
     n
     q
+
+-- A text that came in, by the calls: after any calls.
+text-at : (store : List ℕ) (before : List Lent) (c : Lent) → TextGoesUp (exchange (after (begin store) before) c)
+text-at store before c =
+    let s : Station = after (begin store) before in
+    let up = subst (All TextGoesUp) (run-split (begin store) before c []) (runs store .texts (before ++ (c ∷ []))) in
+    all-back TextGoesUp (run (begin store) before) (exchange s c ∷ run (left s c) []) up .0
+
+module _ (store : List ℕ) (before : List Lent) (c : Lent) (f : Frame) where
+  pub text-later :
+      (p : Pdu) (text : List ℕ)
+      → parsed (c .call) ≡ accepted (frame f)
+      → f .pdu ≡ wholeFrame p text
+      → exchange (after (begin store) before) c .number ≡ 0
+      → textsIn (exchange (after (begin store) before) c .records) ≡ shownOf p text
+  unfolding exchange
+  text-later p text e is z = text-at store before c .up f p text e is z
+
+  pub read-later :
+      (p : Pdu) (text : List ℕ)
+      → parsed (c .call) ≡ accepted (frame f)
+      → f .pdu ≡ wholeFrame p text
+      → among (exchange (after (begin store) before) c .number) (9 ∷ 10 ∷ 11 ∷ 12 ∷ []) ≡ false
+  unfolding exchange
+  read-later p text e is = text-at store before c .read f p text e is
+
+  pub framed-later :
+      parsed (c .call) ≡ accepted (frame f)
+      → exchange (after (begin store) before) c .number ≡ 0
+      → Framed (f .pdu)
+  unfolding exchange
+  framed-later e z = text-at store before c .only f e z
 
 pub claim : Claim
 claim =

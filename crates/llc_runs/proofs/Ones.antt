@@ -1,5 +1,6 @@
 -- Calls that got number 1 are in no past and change no holder, and they give no record: a run may be read without them.
 use Prim.Native.Nat.{ℕ}
+use native.Mathlib.Omega.{arith}
 use mathlib.Core.Path.{_≡_, _∙_, refl, sym, ap, subst}
 use mathlib.Core.Bool.{Bool, false, cond, not, _&&_}
 use mathlib.Core.List.{List, [], _∷_, _++_, append-nil}
@@ -13,6 +14,7 @@ use Rattle.llc_rule.specs.Runs.{Exchange}
 use Rattle.llc_rule.specs.Past.{stays, about, Holders, heldAfter, doneTo, holders, whose, concerns, leftOut, inPast, History, andThen, history}
 use Rattle.llc_rule.specs.Seen.{hindrances, unhindered}
 use Rattle.llc_rule.specs.Sendings.{ends, handed, sendings, AtMostFour, EachAtMostFour}
+use Rattle.llc_rule.specs.Texts.{TextGoesUp}
 use Rattle.llc_runs.specs.Heard.{wasHeard, heardOf}
 
 -- A call that got number 1 gave no record.
@@ -108,3 +110,22 @@ four-heard es q f =
           subst (AtMostFour r) (sym (sendings-heard (r .receipt) later (silent .1)))
           (f .each (heardOf before) e (heardOf later) r split n t);
     }
+
+-- A call that got number 1 was not refused by its bits, and was not accepted.
+text-one : (e : Exchange) → e .number ≡ 1 → TextGoesUp e
+unfolding any
+text-one e n =
+    record {
+      read = λ f p text q is. ap (λ (k : ℕ). among k (9 ∷ 10 ∷ 11 ∷ 12 ∷ [])) n;
+      up = λ f p text q is z. absurd (omega arith);
+      only = λ f q z. absurd (omega arith);
+    }
+
+pub texts-heard : (es : List Exchange) → All TextGoesUp (heardOf es) → All TextGoesUp es
+unfolding keep
+texts-heard [] a = tt
+texts-heard (e ∷ es) a =
+    by-test (wasHeard e)
+    (λ w. let b = subst (All TextGoesUp) (keep-yes wasHeard e es w) a in (b .0, texts-heard es (b .1)))
+    (λ w.
+    (text-one e (eqb-true (e .number) 1 (not-false (eqb (e .number) 1) w)), texts-heard es (subst (All TextGoesUp) (keep-no wasHeard e es w) a)))

@@ -13,10 +13,10 @@ use Rattle.tx_receipt.specs.States.{is, final}
 use Rattle.tx_receipt.specs.Marks as Marks
 use Rattle.tx_receipt.specs.Marks.{allowed}
 use Rattle.tx_receipt.specs.declared.TxState.the-variants.{Pending}
-use Rattle.llc_rule.specs.Calls.{Action, report, release, Frame}
-use Rattle.llc_rule.specs.Records.{Sent}
 use Rattle.llc_pdus.specs.Headers.{nsOf, nrOf}
 use Rattle.llc_pdus.specs.Received.{Received}
+use Rattle.llc_rule.specs.Calls.{Action, report, release, Frame}
+use Rattle.llc_rule.specs.Records.{Sent}
 use Rattle.llc_rule.specs.Upward.{upward}
 use Rattle.llc_rule.specs.Messages as Rule
 use Rattle.llc_rule.specs.Messages.{Message, markOf}

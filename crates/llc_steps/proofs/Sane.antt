@@ -10,10 +10,10 @@ use lib.ListN.{length}
 use Rattle.lists.specs.Lists.{All}
 use Rattle.questions.specs.Outcome.{Outcome, accepted, refused}
 use Rattle.questions.proofs.Asked.{by-question}
+use Rattle.llc_pdus.specs.Received.{received}
 use Rattle.llc_rule.specs.Limits.{storeBytes}
 use Rattle.llc_rule.specs.Calls.{Call, start, tickStart, tickEnd, request, frame, byReceipt, isStart, parsed}
 use Rattle.llc_rule.specs.Ranges.{inRange}
-use Rattle.llc_pdus.specs.Received.{received}
 use Rattle.llc_rule.proofs.Values.{CallFits, CallFitsIn, parsed-fits}
 use Rattle.llc_state.specs.Ranges as Ranges
 use Rattle.llc_state.specs.States.{emptyState, newState}

@@ -21,12 +21,12 @@ use Rattle.tdma_time.proofs.Range as Time
 use Rattle.tx_receipt.specs.States.{is, final}
 use Rattle.tx_receipt.specs.Marks as Marks
 use Rattle.tx_receipt.specs.declared.TxState.the-variants.{Pending}
+use Rattle.llc_pdus.specs.Headers.{nsOf, nrOf}
+use Rattle.llc_pdus.specs.Received.{Received}
 use Rattle.llc_rule.specs.Limits.{longestFrame}
 use Rattle.llc_rule.specs.Calls.{Action, report, release, Frame}
 use Rattle.llc_rule.specs.Messages.{slotBefore, markOf}
 use Rattle.llc_rule.specs.Ranges.{isType, frameInRange}
-use Rattle.llc_pdus.specs.Headers.{nsOf, nrOf}
-use Rattle.llc_pdus.specs.Received.{Received}
 use Rattle.llc_state.specs.Ranges.{ackInRange, messageInRange}
 use Rattle.llc_state.specs.Receipts.{receiptOf, placeOf}
 use Rattle.llc_state.specs.declared.Entry.{Entry}

@@ -4,9 +4,9 @@ use mathlib.Core.Path.{_≡_, refl, ap}
 use mathlib.Core.Bool.{Bool, true, _||_}
 use mathlib.Core.List.{List, []}
 use Rattle.questions.specs.Outcome.{Outcome, accepted, refused}
+use Rattle.llc_pdus.specs.Received.{received}
 use Rattle.llc_rule.specs.Calls.{Call, start, tickStart, tickEnd, request, frame, byReceipt, isStart, parsed}
 use Rattle.llc_rule.specs.Ranges.{inRange}
-use Rattle.llc_pdus.specs.Received.{received}
 use Rattle.llc_rule.specs.Done.{done}
 use Rattle.llc_rule.specs.Link as Link
 use Rattle.llc_rule.specs.Step as Step

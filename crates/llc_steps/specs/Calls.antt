@@ -16,10 +16,10 @@ use Rattle.tx_receipt.specs.declared.TxState.the-variants.{Pending}
 use Rattle.llc_pdus.specs.Writes.{frameBits}
 use Rattle.llc_pdus.specs.declared.Pdu.{Pdu}
 use Rattle.llc_pdus.specs.declared.Pdu.the-variants.{BlAdata, BlData, BlUdata, BlAck}
-use Rattle.llc_rule.specs.Calls.{Service, tlData, tlUnitdata, Action, report, release, Request, Frame}
-use Rattle.llc_rule.specs.Ranges.{steals, wantsFcs, hasMask}
 use Rattle.llc_pdus.specs.Headers.{nsOf, nrOf}
 use Rattle.llc_pdus.specs.Received.{Received}
+use Rattle.llc_rule.specs.Calls.{Service, tlData, tlUnitdata, Action, report, release, Request, Frame}
+use Rattle.llc_rule.specs.Ranges.{steals, wantsFcs, hasMask}
 use Rattle.llc_rule.specs.Upward.{upward}
 use Rattle.llc_rule.specs.Messages.{carrierOf, slotBefore, markOf}
 use Rattle.llc_rule.specs.Step.{onAcknowledgedPath}

@@ -3,9 +3,9 @@ use Prim.Native.Nat.{ℕ}
 use mathlib.Core.Bool.{_||_}
 use mathlib.Core.List.{List, []}
 use Rattle.questions.specs.Outcome.{Outcome, accepted, refused, ask}
+use Rattle.llc_pdus.specs.Received.{received}
 use Rattle.llc_rule.specs.Calls.{Call, start, tickStart, tickEnd, request, frame, byReceipt, isStart, parsed}
 use Rattle.llc_rule.specs.Ranges.{inRange}
-use Rattle.llc_pdus.specs.Received.{received}
 use Rattle.llc_state.specs.States.{startedState, atTime}
 use Rattle.llc_state.specs.declared.State.{State}
 use Rattle.llc_steps.specs.States.{Kept, kept}

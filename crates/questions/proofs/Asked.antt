@@ -13,6 +13,11 @@ passed {r} e left = sym e ∙ not-false r left
 pub failed : {r v : Bool} → r ≡ v → not r ≡ true → v ≡ false
 failed {r} e taken = sym e ∙ not-true r taken
 
+-- What an accepted outcome holds; d for a refusal.
+abbrev pub content : {A : Type 0} → A → Outcome A → A
+content d (accepted a) = a
+content d (refused n) = d
+
 -- Two questions that were passed as one.
 pub both : (x y : Bool) → x && y ≡ true → (x ≡ true) × (y ≡ true)
 both true y h = (refl, h)

@@ -2,7 +2,7 @@
 //! of them apart.
 use crate::call::Call;
 use crate::caught::caught;
-use crate::check_sequence::bit;
+use crate::header;
 use crate::oracle::Oracle;
 use crate::outcome::text;
 use crate::store::lines_of;
@@ -30,6 +30,14 @@ pub enum Fault {
     BlockLost(u32),
     /// What a frame of a type sends up has endpoint 0.
     EndpointLost(u32),
+    /// What a frame of a type sends up, with the FCS flag or without it, loses so many bits.
+    Cut(u32, bool, usize),
+    /// What is emptied goes up with an SDU of no bits, after a frame of a type.
+    EmptyField(u32),
+    /// What is emptied is dropped, after a frame of a type.
+    EmptiedDropped(u32),
+    /// What is emptied goes up, after a BL-ACK.
+    EmptiedKept,
     /// A byte of a field is written as 0 in records of a kind.
     ByteWritten(u8, u8, usize),
 }
@@ -75,13 +83,21 @@ pub fn asked_first(tag: u8) -> Option<u8> {
     }
 }
 
+/// How many bits are cut off what a frame of a type sends up, with the FCS flag or without it, if not as many as there have to be.
+pub fn cut(kind: u32, has_fcs: bool) -> Option<usize> {
+    match FAULT.get() {
+        Some(Fault::Cut(of, with_fcs, bits)) if of == kind && with_fcs == has_fcs => Some(bits),
+        _ => None,
+    }
+}
+
 /// Spoils a record that a call gave.
 pub fn spoil(record: &mut Vec<u8>, call: &Call) {
     let Some(fault) = FAULT.get() else {
         return;
     };
     let kind_up = match call {
-        Call::Frame(frame) => Some(bit(&frame.bits, 2) << 1 | bit(&frame.bits, 3)),
+        Call::Frame(frame) => Some(header::kind(&frame.bits)),
         _ => None,
     };
     let kind = record[3];
@@ -122,7 +138,11 @@ pub fn all() -> Vec<Fault> {
     all.extend([Fault::AskedFirst(0x24, 7), Fault::AskedFirst(0x24, 8), Fault::AskedFirst(0x25, 8)]);
     for kind in 0..4 {
         all.extend([Fault::NotChecked(kind), Fault::BlockLost(kind), Fault::EndpointLost(kind)]);
+        all.extend([0, 31, 33].map(|bits| Fault::Cut(kind, true, bits)));
+        all.push(Fault::Cut(kind, false, 32));
     }
+    all.push(Fault::EmptiedKept);
+    all.extend((0..3).flat_map(|kind| [Fault::EmptyField(kind), Fault::EmptiedDropped(kind)]));
     // The bytes that are not always 0, of each field of each kind of record.
     let fields: [(u8, &[(u8, usize, usize)]); 5] = [
         (1, &[(2, 0, 3), (3, 0, 1), (4, 0, 2), (6, 0, 4), (7, 0, 4), (9, 0, 1), (0xa, 0, 1), (0xb, 0, 1), (0xc, 0, 3)]),

@@ -1,5 +1,5 @@
 //! Runs that tell faults apart: every field of every call and record with a value that differs in every byte, each tag and each
-//! value next to the known ones, and calls that fail two questions.
+//! value next to the known ones, SDUs of each length at which trimming changes something, and calls that fail two questions.
 use crate::bits::Bits;
 use crate::call::{Call, Frame, Request};
 use crate::hex_line::line_of;
@@ -56,11 +56,16 @@ fn short(address: u32, receipt: u8) -> Request {
 
 /// A frame of a type, with an SDU, without a check sequence (0), with one (1), or with one that is wrong (2).
 fn frame(address: u32, kind: u8, pdu: u32, check: u8) -> Frame {
+    frame_with(address, kind, pdu, check, SDU)
+}
+
+/// A frame with an SDU of so many bits.
+fn frame_with(address: u32, kind: u8, pdu: u32, check: u8, sdu: usize) -> Frame {
     let mut bits = Bits::default();
     bits.push_value((if check > 0 { 4 } else { 0 }) | pdu, 4);
     bits.push_value(3, [2, 1, 0, 1][pdu as usize]);
     let header = bits.len();
-    put_bits(&mut bits, SDU);
+    put_bits(&mut bits, sdu);
     if check > 0 {
         bits.push_fcs(header);
     }
@@ -107,6 +112,16 @@ fn fields() -> Vec<Call> {
         [time(0x0200, 1, 1, 1), time(0x0200, 1, 1, 2), time(0x0200, 8, 2, 4), time(0x0200, 8, 3, 1), time(0x0200, 8, 3, 2)]
     {
         calls.extend([later, Call::TickEnd]);
+    }
+    calls
+}
+
+/// What the check bits leave of each PDU: nothing, up to a byte and a bit, the longest SDU, that of the longest frame.
+fn trimmed() -> Vec<Call> {
+    let mut calls = vec![Call::Start { carrier: MAIN_CARRIER, t251: T251 }];
+    for (pdu, header) in [(0, 6), (1, 5), (2, 4), (3, 5)] {
+        let lengths = [0, 1, 7, 8, 9, 2595, 2633 - 32 - header];
+        calls.extend(lengths.map(|length| Call::Frame(frame_with(pdu, 1, pdu, 1, length))));
     }
     calls
 }
@@ -183,6 +198,6 @@ pub fn lines() -> Vec<Vec<u8>> {
         Call::Release { receipt: 1 },
     ];
     lines.extend(known.into_iter().map(|call| tagged(call.bytes()[0] | 0x80, call)));
-    lines.extend(ranges().iter().chain(&orders()).map(|call| line_of(&call.bytes())));
+    lines.extend(trimmed().iter().chain(&ranges()).chain(&orders()).map(|call| line_of(&call.bytes())));
     lines
 }

@@ -12,6 +12,11 @@ pub struct Header {
     pub has_fcs: bool,
 }
 
+/// The two type bits of a frame that has them: 0 BL-ADATA, 1 BL-DATA, 2 BL-UDATA, 3 BL-ACK.
+pub fn kind(bits: &[u8]) -> u32 {
+    bit(bits, 2) << 1 | bit(bits, 3)
+}
+
 /// The header of a frame of `count` bits, or the number.
 pub fn read(bits: &[u8], count: usize) -> Result<Header, u8> {
     if count < 4 {
@@ -21,7 +26,7 @@ pub fn read(bits: &[u8], count: usize) -> Result<Header, u8> {
         return Err(10);
     }
     let has_fcs = bit(bits, 1) == 1;
-    let kind = bit(bits, 2) << 1 | bit(bits, 3);
+    let kind = kind(bits);
     let (nr_at, ns_at, len) = match kind {
         0 => (Some(4), Some(5), 6),
         1 => (None, Some(4), 5),

@@ -1,4 +1,6 @@
-//! A run whose tick ends give as many and as long records as there can be: every place of every queue is in use.
+//! A run whose tick ends give as many and as long records as there can be: every place of every queue is in use. Behind it the
+//! longest frames.
+use crate::bits::Bits;
 use crate::call::{Call, Frame, Request};
 use crate::oracle::{DUE, MESSAGES, UNACKNOWLEDGED};
 use tetra_core::TdmaTime;
@@ -41,6 +43,28 @@ fn frame(ssi: u32) -> Call {
     })
 }
 
+/// The longest frame of a type, with a right FCS or without one.
+fn longest(pdu: u32, has_fcs: bool) -> Call {
+    let mut bits = Bits::default();
+    bits.push_value((has_fcs as u32) << 2 | pdu, 4);
+    let header = [6, 5, 4, 5][pdu as usize];
+    (4..2633).for_each(|at| bits.push(at % 3 == 0));
+    if has_fcs {
+        bits.cut(2633 - 32);
+        bits.push_fcs(header);
+    }
+    Call::Frame(Frame {
+        ssi: pdu,
+        kind: 2,
+        carrier: CARRIER,
+        link: 1,
+        endpoint: 2,
+        block: vec![9; 64],
+        bit_count: 2633,
+        bits: bits.bytes(),
+    })
+}
+
 /// The tick start of a slot.
 fn time(slot: i32) -> Call {
     let TdmaTime { h, m, f, t } = TdmaTime::from_int(slot);
@@ -59,7 +83,7 @@ fn unacknowledged_and_due() -> Vec<Call> {
     calls
 }
 
-/// The run: all are sent, and then all are sent three times again and are gone.
+/// The run: all are sent, and then all are sent three times again and are gone. Then the longest frames come in.
 pub fn run() -> Vec<Call> {
     let mut calls = vec![Call::Start { carrier: 1, t251: 4 }];
     for at in 0..MESSAGES {
@@ -81,5 +105,6 @@ pub fn run() -> Vec<Call> {
         }
         calls.push(Call::TickEnd);
     }
+    calls.extend((0..4).flat_map(|pdu| [longest(pdu, false), longest(pdu, true)]));
     calls
 }

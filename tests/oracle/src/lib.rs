@@ -29,3 +29,4 @@ pub mod spoilt;
 pub mod store;
 pub mod subject;
 pub mod traffic;
+pub mod trim;

@@ -1,12 +1,15 @@
-//! The oracle: what document 01's questions let through goes to the Rust's own link, and what that gives comes back as records.
+//! The oracle: what document 01's questions let through goes to the Rust's own link, and what that gives comes back as records,
+//! trimmed where it goes up with FCS.
 use crate::call::Call;
 use crate::caught::caught;
 use crate::coverage::Coverage;
 use crate::faults;
+use crate::header;
 use crate::hex_line;
 use crate::message;
 use crate::record;
 use crate::sight::{self, FrameSight, TickSight};
+use crate::trim::trim;
 use tetra_config::bluestation::SharedConfig;
 use tetra_core::{TdmaTime, TxReporter};
 use tetra_entities::llc::llc_bs_ms::{ExpectedInAck, Llc};
@@ -176,18 +179,28 @@ impl Oracle {
             sight::request(&self.link.as_ref().unwrap().llc, request, &mut self.coverage);
         }
         while let Some(given) = queue.pop_front() {
-            let receipt_of = |reporter: &TxReporter| {
-                let is_it = |held: &Option<TxReporter>| held.as_ref().is_some_and(|held| held.is_same(reporter));
-                self.receipts.iter().position(is_it).map(|at| at as u8)
-            };
-            match record::of(&given, receipt_of) {
-                Ok(mut record) => {
+            match self.record_of(given, call) {
+                Ok(Some(mut record)) => {
                     faults::spoil(&mut record, call);
                     answer.records.push(record);
                 }
+                Ok(None) => {}
                 Err(what) => answer.fault = Some(what),
             }
         }
+    }
+
+    /// The record of a message that the Rust gave for a call; nothing, if the message is dropped.
+    fn record_of(&mut self, given: SapMsg, call: &Call) -> Result<Option<Vec<u8>>, String> {
+        let left = match call {
+            Call::Frame(frame) => trim(given, header::kind(&frame.bits), &mut self.coverage)?,
+            _ => Some(given),
+        };
+        let receipt_of = |reporter: &TxReporter| {
+            let is_it = |held: &Option<TxReporter>| held.as_ref().is_some_and(|held| held.is_same(reporter));
+            self.receipts.iter().position(is_it).map(|at| at as u8)
+        };
+        left.map(|message| record::of(&message, receipt_of)).transpose()
     }
 }
 

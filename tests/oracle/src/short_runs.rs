@@ -1,4 +1,5 @@
 //! Every short run: all lists of calls out of an alphabet, after several beginnings.
+use crate::bits::Bits;
 use crate::call::{Call, Frame, Request};
 use tetra_core::TdmaTime;
 
@@ -55,6 +56,15 @@ fn frame(ssi: u32, kind: u8, carrier: u16, bits: &str) -> Call {
     let byte = bits.bytes().enumerate().fold(0, |sum, (at, bit)| sum | (bit - b'0') << (7 - at));
     let bit_count = bits.len() as u16;
     Call::Frame(Frame { ssi, kind, carrier, link: 5, endpoint: 6, block: Vec::new(), bit_count, bits: vec![byte] })
+}
+
+/// A frame on the main carrier with a header and an SDU, given as characters, and a right FCS.
+fn checked(ssi: u32, header: &str, sdu: &str) -> Call {
+    let mut bits = Bits::default();
+    header.bytes().chain(sdu.bytes()).for_each(|bit| bits.push(bit == b'1'));
+    bits.push_fcs(header.len());
+    let (bit_count, bits) = (bits.len() as u16, bits.bytes());
+    Call::Frame(Frame { ssi, kind: 1, carrier: MAIN, link: 5, endpoint: 6, block: Vec::new(), bit_count, bits })
 }
 
 /// BL-ACK with an N(R), on the main carrier.
@@ -212,9 +222,34 @@ fn due() -> Alphabet {
     }
 }
 
+/// Frames with FCS, some with nothing else: what goes up, what is acknowledged and what is due.
+fn with_fcs() -> Alphabet {
+    let tick = Call::TickEnd;
+    let done = vec![data(A, 1), tick.clone(), sent(1), tick.clone()];
+    Alphabet {
+        name: "frames with FCS",
+        start: Call::Start { carrier: MAIN, t251: 2 },
+        beginnings: vec![vec![], done.clone(), all(&[&done, &[data(A, 2), frame(A, 1, MAIN, "00010")]])],
+        letters: vec![
+            checked(A, "010000", ""),
+            checked(A, "010001", "1"),
+            checked(A, "01010", ""),
+            checked(A, "01011", "0110011"),
+            checked(A, "0110", ""),
+            checked(A, "0110", "10011001"),
+            checked(A, "01110", ""),
+            checked(A, "01110", "110011001"),
+            checked(A, "01111", ""),
+            data(A, 2),
+            tick.clone(),
+        ],
+        tail: vec![tick.clone(), sent(1), sent(2), release(1), release(2), time(9), tick.clone(), ack(A, 1), release(2)],
+    }
+}
+
 /// All alphabets.
 pub fn alphabets() -> Vec<Alphabet> {
-    vec![one_address(), three_addresses(), due()]
+    vec![one_address(), three_addresses(), due(), with_fcs()]
 }
 
 impl Alphabet {

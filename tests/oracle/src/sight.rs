@@ -88,6 +88,9 @@ impl FrameSight {
         };
         if header.has_fcs {
             coverage.count("FCS right");
+            if frame.bit_count == 2633 {
+                coverage.count("frame of 2,633 bits with FCS");
+            }
         }
         let Some(nr) = header.nr else {
             return nothing;

@@ -195,13 +195,22 @@ impl Station {
         }
     }
 
+    /// The length of an SDU behind a header of so many bits and in front of an FCS: half of them such as change something there.
+    fn before_fcs(&self, header: usize, prng: &mut Prng) -> usize {
+        if prng.once_in(2) {
+            return self.sdu(prng).len();
+        }
+        let is_long = prng.once_in(self.long_sdu_odds);
+        if is_long { prng.one_of(&[2595, 2633 - 32 - header]) } else { prng.one_of(&[0, 1, 7, 8, 9]) }
+    }
+
     /// A frame of a type (its two bits) with these numbers, and now and then an SDU and a right FCS.
     fn frame(&self, ssi: u32, carrier: u16, kind: u32, nr: u8, ns: u8, prng: &mut Prng) -> Call {
         let has_fcs = prng.once_in(4);
         let mut bits = header(kind, has_fcs, nr, ns);
         let from = bits.len();
         if kind != 3 || prng.once_in(4) {
-            let sdu = self.sdu(prng).len();
+            let sdu = if has_fcs { self.before_fcs(from, prng) } else { self.sdu(prng).len() };
             bits.push_random(sdu, prng);
         }
         if has_fcs {

@@ -1,53 +1,97 @@
-//! PDUs taken apart: a type of four bits, N(R) and N(S) where it has them, and the SDU.
+//! PDUs taken apart: a type of four bits, N(R) and N(S) where it has them, and what is behind them.
 use crate::words::{Nr, Ns, Packed, fcs_flag};
 use std::fmt::{Display, Formatter, Result};
 use wipturay::Bits;
 
-/// The bits of a frame, and what they are read as.
-pub struct Pdu<'a>(pub Bits<'a>);
+/// How many check bits there are.
+const CHECK_BITS: usize = 32;
 
-impl Display for Pdu<'_> {
+/// The bits of a frame to be sent, and what they are read as: with the FCS flag too, the SDU is all that is behind the header.
+pub struct PduToSend<'a>(pub Bits<'a>);
+
+impl Display for PduToSend<'_> {
     fn fmt(&self, f: &mut Formatter<'_>) -> Result {
-        write!(f, "{}: ", Packed::new(self.0.iter()))?;
-        let mut bits = self.0.iter();
-        let (Some(advanced), Some(fcs), Some(high), Some(low)) = (bits.next(), bits.next(), bits.next(), bits.next()) else {
-            return f.write_str("no PDU, under four bits");
-        };
-        if advanced {
-            return f.write_str("no basic link PDU, its type is not 0 to 7");
-        }
-        let (name, has_nr, has_ns) = match (high, low) {
-            (false, false) => ("BL-ADATA", true, true),
-            (false, true) => ("BL-DATA", false, true),
-            (true, false) => ("BL-UDATA", false, false),
-            (true, true) => ("BL-ACK", true, false),
-        };
-        if self.0.len() < 4 + usize::from(has_nr) + usize::from(has_ns) {
-            return f.write_str("no PDU, its header is cut");
-        }
-        f.write_str(name)?;
-        if let Some(nr) = has_nr.then(|| bits.next()).flatten() {
-            write!(f, ", {}", Nr(nr))?;
-        }
-        if let Some(ns) = has_ns.then(|| bits.next()).flatten() {
-            write!(f, ", {}", Ns(ns))?;
-        }
-        write!(f, ", {}, SDU of {}", fcs_flag(fcs), Packed::new(bits))
+        put_pdu(f, self.0, |f, _, behind| put_sdu(f, behind))
     }
+}
+
+/// The bits of a frame that came in, and what they are read as: with the FCS flag the last 32 are check bits.
+pub struct PduReceived<'a>(pub Bits<'a>);
+
+impl Display for PduReceived<'_> {
+    fn fmt(&self, f: &mut Formatter<'_>) -> Result {
+        put_pdu(f, self.0, put_received)
+    }
+}
+
+/// Tells the bits of a frame and its header, and by `put_behind` what is behind it, with the FCS flag.
+fn put_pdu(f: &mut Formatter<'_>, pdu: Bits<'_>, put_behind: impl FnOnce(&mut Formatter<'_>, bool, &[bool]) -> Result) -> Result {
+    write!(f, "{}: ", Packed::new(pdu.iter()))?;
+    let mut bits = pdu.iter();
+    let (Some(advanced), Some(fcs), Some(high), Some(low)) = (bits.next(), bits.next(), bits.next(), bits.next()) else {
+        return f.write_str("no PDU, under four bits");
+    };
+    if advanced {
+        return f.write_str("no basic link PDU, its type is not 0 to 7");
+    }
+    let (name, has_nr, has_ns) = match (high, low) {
+        (false, false) => ("BL-ADATA", true, true),
+        (false, true) => ("BL-DATA", false, true),
+        (true, false) => ("BL-UDATA", false, false),
+        (true, true) => ("BL-ACK", true, false),
+    };
+    if pdu.len() < 4 + usize::from(has_nr) + usize::from(has_ns) {
+        return f.write_str("no PDU, its header is cut");
+    }
+    f.write_str(name)?;
+    if let Some(nr) = has_nr.then(|| bits.next()).flatten() {
+        write!(f, ", {}", Nr(nr))?;
+    }
+    if let Some(ns) = has_ns.then(|| bits.next()).flatten() {
+        write!(f, ", {}", Ns(ns))?;
+    }
+    write!(f, ", {}", fcs_flag(fcs))?;
+    put_behind(f, fcs, &bits.collect::<Vec<_>>())
+}
+
+/// An SDU.
+fn put_sdu(f: &mut Formatter<'_>, sdu: &[bool]) -> Result {
+    write!(f, ", SDU of {}", packed(sdu))
+}
+
+/// An SDU, and with the FCS flag its check bits, if there are enough for these.
+fn put_received(f: &mut Formatter<'_>, fcs: bool, behind: &[bool]) -> Result {
+    if !fcs {
+        return put_sdu(f, behind);
+    }
+    let Some(len) = behind.len().checked_sub(CHECK_BITS) else {
+        return write!(f, ", {}, too few for check bits", packed(behind));
+    };
+    let (sdu, check) = behind.split_at(len);
+    put_sdu(f, sdu)?;
+    let check = check.iter().fold(0, |sum: u32, &bit| sum << 1 | u32::from(bit));
+    write!(f, ", check bits [{check:08x}]")
+}
+
+/// Bits with their count.
+fn packed(bits: &[bool]) -> Packed {
+    Packed::new(bits.iter().copied())
 }
 
 #[cfg(test)]
 mod tests {
-    use super::Pdu;
+    use super::{PduReceived, PduToSend};
     use wipturay::Bits;
 
-    fn told(bytes: &[u8], len: usize) -> String {
-        Pdu(Bits::new(bytes, len).unwrap()).to_string()
+    /// What is told of a frame to be sent, and of one that came in.
+    fn told(bytes: &[u8], len: usize) -> [String; 2] {
+        let bits = Bits::new(bytes, len).unwrap();
+        [PduToSend(bits).to_string(), PduReceived(bits).to_string()]
     }
 
     #[test]
     fn each_pdu_has_its_name_and_its_bits() {
-        let cases: [(&[u8], usize, &str); 8] = [
+        let cases: [(&[u8], usize, &str); 6] = [
             (
                 &[0b0000_1001],
                 8,
@@ -58,15 +102,46 @@ mod tests {
                 6,
                 "6 bits [04]: BL-ADATA, N(R) 0, N(S) 1, no FCS flag, SDU of 0 bits []",
             ),
-            (&[0b0101_1000], 5, "5 bits [58]: BL-DATA, N(S) 1, FCS flag, SDU of 0 bits []"),
             (&[0b0010_0000], 4, "4 bits [20]: BL-UDATA, no FCS flag, SDU of 0 bits []"),
-            (&[0b0111_0111], 8, "8 bits [77]: BL-ACK, N(R) 0, FCS flag, SDU of 3 bits [e0]"),
             (&[0b1111_1111], 8, "8 bits [ff]: no basic link PDU, its type is not 0 to 7"),
             (&[0b0000_0000], 5, "5 bits [00]: no PDU, its header is cut"),
             (&[0b1110_0000], 3, "3 bits [e0]: no PDU, under four bits"),
         ];
         for (bytes, len, expected) in cases {
-            assert_eq!(told(bytes, len), expected);
+            assert_eq!(told(bytes, len), [expected; 2]);
+        }
+    }
+
+    #[test]
+    fn with_the_fcs_flag_a_frame_that_came_in_ends_with_check_bits() {
+        let cases: [(&[u8], usize, &str, &str); 4] = [
+            (
+                &[0b0101_1000],
+                5,
+                "5 bits [58]: BL-DATA, N(S) 1, FCS flag, SDU of 0 bits []",
+                "5 bits [58]: BL-DATA, N(S) 1, FCS flag, 0 bits [], too few for check bits",
+            ),
+            (
+                &[0b0111_0111, 0xff, 0xff, 0xff, 0xf0],
+                36,
+                "36 bits [77fffffff0]: BL-ACK, N(R) 0, FCS flag, SDU of 31 bits [fffffffe]",
+                "36 bits [77fffffff0]: BL-ACK, N(R) 0, FCS flag, 31 bits [fffffffe], too few for check bits",
+            ),
+            (
+                &[0b0100_1000, 0, 0, 0, 0b1000],
+                38,
+                "38 bits [4800000008]: BL-ADATA, N(R) 1, N(S) 0, FCS flag, SDU of 32 bits [00000002]",
+                "38 bits [4800000008]: BL-ADATA, N(R) 1, N(S) 0, FCS flag, SDU of 0 bits [], check bits [00000002]",
+            ),
+            (
+                &[0b0110_1111, 0xff, 0xff, 0xff, 0xf8],
+                37,
+                "37 bits [6ffffffff8]: BL-UDATA, FCS flag, SDU of 33 bits [ffffffff80]",
+                "37 bits [6ffffffff8]: BL-UDATA, FCS flag, SDU of 1 bits [80], check bits [ffffffff]",
+            ),
+        ];
+        for (bytes, len, sent, received) in cases {
+            assert_eq!(told(bytes, len), [sent, received]);
         }
     }
 }

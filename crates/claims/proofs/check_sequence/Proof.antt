@@ -1,6 +1,7 @@
 use Rattle.claims.proofs.check_sequence.Statement.{statement}
 use Rattle.claims.proofs.check_sequence.Tie as tie
 use Rattle.fcs.proofs.Remainder as Remainder
+use Rattle.fcs.proofs.Laws as Laws
 use Rattle.fcs.proofs.Table as Table
 
 returns : tie.Need-returns
@@ -8,6 +9,7 @@ returns c = record {
   remainder = Remainder.remainder;
   only-remainder = Remainder.only-remainder;
   fcs-divided = Remainder.fcs-divided;
+  length-fcs = Laws.length-fcs;
   ruled = Table.ruled;
 }
 

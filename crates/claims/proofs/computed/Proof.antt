@@ -9,6 +9,7 @@ use Rattle.llc_rule.proofs.Runs.Widths as Widths
 use Rattle.llc_rule.proofs.Runs.Orders as Orders
 use Rattle.llc_rule.proofs.Runs.Ranges as Ranges
 use Rattle.llc_rule.proofs.Runs.Checks as Checks
+use Rattle.llc_rule.proofs.Runs.CheckBits as CheckBits
 use Rattle.llc_rule.proofs.Instance as Instance
 
 returns : tie.Need-returns
@@ -52,6 +53,15 @@ returns c = record {
   ranges-values = Ranges.values-agrees;
   checks-flagged = Checks.flagged-agrees;
   checks-lengths = Checks.lengths-agrees;
+  check-bits-emptied = CheckBits.emptied-agrees;
+  check-bits-cut = CheckBits.cut-agrees;
+  check-bits-longest = CheckBits.longest-agrees;
+  check-bits-unflagged = CheckBits.unflagged-agrees;
+  check-bits-too-short = CheckBits.too-short-agrees;
+  check-bits-wrong-check = CheckBits.wrong-check-agrees;
+  check-bits-twice = CheckBits.twice-agrees;
+  check-bits-acknowledged = CheckBits.acknowledged-agrees;
+  check-bits-other-flag = CheckBits.other-flag-agrees;
   instance-agrees = Instance.instance-agrees;
   turned-agrees = Instance.turned-agrees;
 }

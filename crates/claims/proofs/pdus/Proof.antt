@@ -3,6 +3,8 @@ use Rattle.claims.proofs.pdus.Tie as tie
 use Rattle.llc_pdus.proofs.Laws as Laws
 use Rattle.llc_pdus.proofs.Holding as Holding
 use Rattle.llc_pdus.proofs.RoundTrip as RoundTrip
+use Rattle.llc_pdus.proofs.CheckBits as CheckBits
+use Rattle.llc_pdus.proofs.HandedBack as HandedBack
 
 returns : tie.Need-returns
 returns c = record {
@@ -15,6 +17,10 @@ returns c = record {
   held-bits = Holding.held-bits;
   reads-back = RoundTrip.reads-back;
   sdu-back = RoundTrip.sdu-back;
+  received-back = CheckBits.received-back;
+  frame-received = CheckBits.frame-received;
+  received-frame = CheckBits.received-frame;
+  held-sdu = HandedBack.held-sdu;
 }
 
 pub pdus-spec : {M : Type 1} → statement M

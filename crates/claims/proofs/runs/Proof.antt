@@ -14,6 +14,9 @@ returns c = record {
   receipts = λ store cs u a. Claim.claim .runs store .demand3 cs u a .receipts;
   alone = λ store cs u a. Claim.claim .runs store .demand3 cs u a .alone;
   few = λ store before c r later n q. Claim.four-later store before c r later n q .few;
+  texts = Claim.text-later;
+  texts-read = Claim.read-later;
+  texts-only = λ store before c f e z. let k = Claim.framed-later store before c f e z in (k .pdu, (k .text, k .is));
   one = Determined.one-answer;
   unhindered-lents = Instance.unhindered-lents;
   sees-lents = Instance.sees-lents;

@@ -1,4 +1,5 @@
 //! Frames: read and written, and the sixteen types.
+use crate::bits::Bits;
 use crate::caught::caught;
 use crate::exports::*;
 use crate::prng::Prng;
@@ -9,27 +10,34 @@ use tetra_pdus::llc::enums::llc_pdu_type::LlcPduType;
 use tetra_pdus::llc::pdus::{bl_ack::BlAck, bl_adata::BlAdata, bl_data::BlData, bl_udata::BlUdata};
 
 const WANTED: &[(&str, &[&str])] = &[
-    ("from_bitbuf", &["BL-ADATA", "BL-DATA", "BL-UDATA", "BL-ACK", "9", "10", "11", "12", "5"]),
+    ("from_bitbuf", &["BL-ADATA", "BL-DATA", "BL-UDATA", "BL-ACK", "9", "10", "11", "12", "12, under 32 bits", "5"]),
+    ("from_bitbuf", &TRIMMED),
+    ("from_bitbuf", &EMPTIED),
     ("to_bitbuf", &["BL-ADATA", "BL-DATA", "BL-UDATA", "BL-ACK", "5", "5, a long SDU", "8"]),
     ("try_from and into_raw", &["a type", "5"]),
 ];
 const NAMES: [&str; 4] = ["BL-ADATA", "BL-DATA", "BL-UDATA", "BL-ACK"];
+const TRIMMED: [&str; 4] = ["BL-ADATA, trimmed", "BL-DATA, trimmed", "BL-UDATA, trimmed", "BL-ACK, trimmed"];
+const EMPTIED: [&str; 4] = ["BL-ADATA, emptied", "BL-DATA, emptied", "BL-UDATA, emptied", "BL-ACK, emptied"];
+/// How many bits the headers have.
+const HEADERS: [usize; 4] = [6, 5, 4, 5];
 /// The longest SDU of a frame that goes out.
 const LONGEST: usize = 2595;
 /// A refusal of a function that answers with one number.
 const REFUSED: u64 = 1 << 32;
 
 /// What a reader of the Rust gives, as the link asks it: the type by the first four bits, then the reader of that type, then the
-/// check.
-fn rust_read(frame: &[u8], len: usize) -> FrameAnswer {
-    let refused = |number| FrameAnswer { number, kind: 0, has_fcs: false, nr: false, ns: false, first: 0, len: 0, place: 0 };
+/// check. "Check bits that go up": the Rust leaves them behind the SDU, and here they are cut. With the name of the answer.
+fn rust_read(frame: &[u8], len: usize) -> (&'static str, FrameAnswer) {
+    let refused =
+        |name, number| (name, FrameAnswer { number, kind: 0, has_fcs: false, nr: false, ns: false, first: 0, len: 0, place: 0 });
     let mut buffer = BitBuffer::from_bytes(frame);
     // "A window that does not lie inside its bytes".
     if caught(|| buffer.set_raw_end(len)).is_none() {
-        return refused(5);
+        return refused("5", 5);
     }
     let Some(raw) = buffer.peek_bits(4) else {
-        return refused(9);
+        return refused("9", 9);
     };
     let read = match LlcPduType::try_from(raw).unwrap() {
         LlcPduType::BlAdata | LlcPduType::BlAdataFcs => {
@@ -44,34 +52,56 @@ fn rust_read(frame: &[u8], len: usize) -> FrameAnswer {
         LlcPduType::BlAck | LlcPduType::BlAckFcs => {
             BlAck::from_bitbuf(&mut buffer).ok().map(|pdu| (3, pdu.has_fcs, pdu.nr == 1, false))
         }
-        _ => return refused(10),
+        _ => return refused("10", 10),
     };
     let Some((kind, has_fcs, nr, ns)) = read else {
-        return refused(11);
+        return refused("11", 11);
     };
     if has_fcs && !check_fcs(&buffer) {
-        return refused(12);
+        return refused(if buffer.get_len_remaining() < 32 { "12, under 32 bits" } else { "12" }, 12);
+    }
+    if has_fcs {
+        buffer.set_raw_end(len - 32);
     }
     let (first, left) = (buffer.get_raw_pos(), buffer.get_len_remaining());
     // The copy of what is left begins at the SDU's first bit's place in its bytes.
     let copy = BitBuffer::from_bitbuffer_pos(&buffer);
     let place = if left == 0 { 0 } else { copy.get_raw_start() };
-    FrameAnswer { number: 0, kind, has_fcs, nr, ns, first, len: left, place }
+    let names = match (has_fcs, left) {
+        (false, _) => NAMES,
+        (true, 0) => EMPTIED,
+        (true, _) => TRIMMED,
+    };
+    (names[kind as usize], FrameAnswer { number: 0, kind, has_fcs, nr, ns, first, len: left, place })
 }
 
 /// Reads one frame on both sides.
 fn read(frame: &[u8], len: usize, report: &mut Report) {
     let here = unsafe { leaf_from_bitbuf(frame.as_ptr(), frame.len(), len) };
-    let rust = rust_read(frame, len);
-    let answer = match rust.number {
-        0 => NAMES[rust.kind as usize],
-        5 => "5",
-        9 => "9",
-        10 => "10",
-        11 => "11",
-        _ => "12",
-    };
+    let (answer, rust) = rust_read(frame, len);
     report.compare("from_bitbuf", answer, || format!("{len} bits of {frame:02x?}"), &here, &rust);
+}
+
+/// Reads a frame of a type with an SDU of so many bits and a right FCS: as it is; with bytes behind it, also one bit shorter and
+/// longer; with one bit turned round, of all and of those behind the header.
+fn read_checked(kind: usize, sdu: usize, prng: &mut Prng, report: &mut Report) {
+    let header = HEADERS[kind];
+    let mut bits = Bits::default();
+    bits.push_value(4 | kind as u32, 4);
+    bits.push_random(header - 4 + sdu, prng);
+    bits.push_fcs(header);
+    let len = bits.len();
+    read(&bits.bytes(), len, report);
+    for turned in [prng.below(len), header + prng.below(len - header)] {
+        let mut other = bits.clone();
+        other.flip(turned);
+        read(&other.bytes(), len, report);
+    }
+    let behind = 1 + prng.below(40);
+    bits.push_random(behind, prng);
+    for len in [len - 1, len, len + 1] {
+        read(&bits.bytes(), len, report);
+    }
 }
 
 /// What the Rust writes: the header and the SDU into the lent bytes. Nothing, if it panics.
@@ -113,7 +143,7 @@ fn write(pdu: (u8, bool, bool, bool), out: &[u8], sdu: &[u8], from: usize, len: 
     report.compare("to_bitbuf", answer, input, &(written, here), &expected);
 }
 
-/// Every frame of up to ten bits, with other bits behind them; longer ones; every PDU; the types.
+/// Every frame of up to ten bits, with other bits behind them; longer ones; ones with a right FCS; every PDU; the types.
 pub fn compare(prng: &mut Prng) -> bool {
     let mut report = Report::new("frames", WANTED);
     for bits in 0..1024u32 {
@@ -131,6 +161,15 @@ pub fn compare(prng: &mut Prng) -> bool {
         let frame = random(count, prng);
         let len = if prng.once_in(50) { usize::MAX - prng.below(9) } else { prng.below(8 * count + 3) };
         read(&frame, len, &mut report);
+    }
+    for kind in 0..4 {
+        for sdu in [0, 1, 7, 8, 9, 31, 32, 33, 64, 2595, 2633 - 32 - HEADERS[kind]] {
+            (0..20).for_each(|_| read_checked(kind, sdu, prng, &mut report));
+        }
+    }
+    for _ in 0..20_000 {
+        let sdu = if prng.once_in(100) { prng.below(2596) } else { prng.below(70) };
+        read_checked(prng.below(4), sdu, prng, &mut report);
     }
     let sdu = random(330, prng);
     let lens = [0, 1, 2, 3, 7, 8, 9, 31, 32, 33, 63, 64, 65, 66, 2594, 2595, 2596, 2633, usize::MAX];

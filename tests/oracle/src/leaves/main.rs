@@ -1,7 +1,13 @@
 //! Compares the proved leaves with the Rust that they were translated from, function by function.
 mod act;
+#[allow(dead_code, reason = "the oracle uses the rest")]
+#[path = "../bits.rs"]
+mod bits;
 #[path = "../caught.rs"]
 mod caught;
+#[allow(dead_code, reason = "the oracle uses the rest")]
+#[path = "../check_sequence.rs"]
+mod check_sequence;
 mod checks;
 mod exports;
 mod frames;

@@ -2,7 +2,7 @@ use Prim.Native.Nat.{ℕ, _-_, _/_, _%_}
 use native.Mathlib.Omega.{arith}
 use mathlib.Core.Bool.{true, false}
 use mathlib.Core.List.{List}
-use mathlib.Core.Path.{_≡_, _∙_, ap, ap₂}
+use mathlib.Core.Path.{_≡_, _∙_, ap}
 use Rattle.bits.specs.Bits.{toBits, bits}
 use borrow.Author.Needs.{needs}
 use borrow.Author.Tests.{leb-true, eq-eqb, ne-eqb}

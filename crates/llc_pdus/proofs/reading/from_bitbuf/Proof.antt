@@ -1,19 +1,22 @@
 use Prim.Native.Nat.{ℕ, _-_, _≤_}
 use native.Mathlib.Omega.{arith}
-use mathlib.Core.Path.{_≡_, _∙_, sym, ap}
+use mathlib.Core.Path.{_≡_, _∙_, sym, ap, ap₂}
+use mathlib.Core.Bool.{Bool, cond}
 use mathlib.Core.List.{List}
 use borrow.Author.Needs.{needs}
 use borrow.Author.Tests.{not-true, not-false}
 use lib.ListN.{length, drop}
 use Rattle.bits.specs.Bits.{bits}
 use Rattle.fcs.specs.Answers as Fcs
+use Rattle.fcs.specs.Fcs.{fcsBits}
 use Rattle.llc_pdus.specs.Answers.{headed, answered, sduOf}
 use Rattle.llc_pdus.specs.Headers.{header}
+use Rattle.llc_pdus.specs.Received.{checkBits}
 use Rattle.llc_pdus.specs.Sdus.{sduAt}
 use Rattle.llc_pdus.specs.declared.headers.HeaderEnd.{HeaderEnd}
 use Rattle.llc_pdus.specs.declared.Read.{Read}
 use Rattle.llc_pdus.specs.declared.Sdu.{Sdu}
-use Rattle.llc_pdus.proofs.Received.{Apart, apart, lent, checkBehind, ends-inside, unchecked, right, wrong, inside-bytes, refused-so}
+use Rattle.llc_pdus.proofs.Received.{Apart, apart, lent, checkBehind, ends-inside, unchecked, right, long, wrong, inside-bytes, refused-so}
 use Rattle.llc_pdus.proofs.reading.from_bitbuf.Statement.{statement}
 use Rattle.llc_pdus.proofs.reading.from_bitbuf.Tie as tie
 
@@ -35,11 +38,12 @@ known c =
     let g = c .before .before .pdu .given in
     apart (a .frame .now) (a .len) (g .0 .0) (sym (ap headed (g .1)) ∙ c .before .before .before .before .read-header .ensures)
 
--- The SDU from there to the end of the frame.
-place : (c : tie.After-header-len)
-    → sduAt (c .header-len .result) (c .before .before .before .before .before .before .args .len - c .header-len .result)
+-- The SDU ends m bits before the end of the frame.
+place : (c : tie.After-header-len) {m : ℕ}
+    → m ≡ checkBits (c .before .before .pdu .given .0 .0)
+    → sduAt (c .header-len .result) (c .before .before .before .before .before .before .args .len - c .header-len .result - m)
     ≡ sduOf (c .before .before .before .before .before .before .args .len) (c .before .before .pdu .given .0 .0)
-place c = ap (λ (k : ℕ). sduAt k (c .before .before .before .before .before .before .args .len - k)) (c .header-len .ensures)
+place c e = ap₂ (λ (k n : ℕ). sduAt k (c .before .before .before .before .before .before .args .len - k - n)) (c .header-len .ensures) e
 
 sub-behind : tie.Need-sub-behind
 sub-behind c = omega (arith, c .header-len .ensures, known c .whole)
@@ -54,8 +58,12 @@ returns : tie.Need-returns
 returns c =
     let d = c .before .before .before in
     let h = c .before .before .has-fcs in
-    ap (λ (s : Sdu). answered (Read.Frame (d .before .before .pdu .given .0 .0) s)) (c .sdu-at .ensures ∙ place d)
-    ∙ unchecked (known d) (sym (h .ensures) ∙ not-true (h .result) (c .before .if1 .taken))
+    let n = d .before .before .before .before .before .before .args .len - d .header-len .result in
+    let whole : n ≡ n - 0 = omega arith in
+    let no = sym (h .ensures) ∙ not-true (h .result) (c .before .if1 .taken) in
+    ap (λ (s : Sdu). answered (Read.Frame (d .before .before .pdu .given .0 .0) s))
+    (c .sdu-at .ensures ∙ ap (sduAt (d .header-len .result)) whole ∙ place d (sym (ap (λ (t : Bool). cond t fcsBits 0) no)))
+    ∙ unchecked (known d) no
 
 header-end-requires : tie.Need-header-end-requires
 header-end-requires c κs = search needs
@@ -78,9 +86,6 @@ check-fcs-requires c κs = search needs
 
 enum-told : tie.Need-enum-told
 enum-told c = search needs
-
-sdu-at-requires-2 : tie.Need-sdu-at-requires-2
-sdu-at-requires-2 c κs = search needs
 
 enum-told-2 : tie.Need-enum-told-2
 enum-told-2 c = search needs
@@ -106,10 +111,22 @@ answer c =
     ∙ ap (λ (x : HeaderEnd). Fcs.check (bits (drop (x .byte) (a .frame .now))) (x .bits) (a .len - n .result)) (e .ensures)
     ∙ ap (λ (k : ℕ). checkBehind (a .frame .now) p (a .len - k)) (n .ensures)
 
+sub-sdu-at : tie.Need-sub-sdu-at
+sub-sdu-at c =
+    let d = c .before .before .before .before .before .before .before in
+    let there = long (known d) (sym (ap Fcs.checked (c .enum-told .given .1)) ∙ answer (c .before .before)) in
+    omega (arith, d .header-len .ensures, there)
+
+sdu-at-requires-2 : tie.Need-sdu-at-requires-2
+sdu-at-requires-2 c κs = search needs
+
 returns-2 : tie.Need-returns-2
 returns-2 c =
     let d = c .before .before .before .before .before .before .before .before in
-    ap (λ (s : Sdu). answered (Read.Frame (d .before .before .pdu .given .0 .0) s)) (c .sdu-at2 .ensures ∙ place d)
+    let h = c .before .before .before .before .before .before .before .has-fcs in
+    let yes = sym (h .ensures) ∙ not-false (h .result) (c .before .before .before .before .before .before .if1 .left) in
+    ap (λ (s : Sdu). answered (Read.Frame (d .before .before .pdu .given .0 .0) s))
+    (c .sdu-at2 .ensures ∙ place d (sym (ap (λ (t : Bool). cond t fcsBits 0) yes)))
     ∙ right (known d) (sym (ap Fcs.checked (c .before .enum-told .given .1)) ∙ answer (c .before .before .before))
 
 returns-3 : tie.Need-returns-3
@@ -145,6 +162,7 @@ from-bitbuf-spec =
     part-check-fcs-end
     check-fcs-requires
     enum-told
+    sub-sdu-at
     sdu-at-requires-2
     enum-told-2
     enum-told-3
