@@ -10,7 +10,8 @@ use Rattle.bits.specs.Bits.{part, splice}
 use Rattle.tdma_time.specs.Slots.{valid}
 use Rattle.tdma_time.specs.declared.TdmaTime.{TdmaTime}
 use Rattle.llc_rule.specs.Limits.{placeBits, storeBytes, storePlaces}
-use Rattle.llc_rule.specs.Link.{new, startedWith, withTime}
+use Rattle.llc_rule.specs.Keeps.{withTime}
+use Rattle.llc_rule.specs.Link.{new, startedWith}
 use Rattle.llc_rule.specs.Step.{step}
 use Rattle.llc_state.specs.View.{frameAt, linkIn, placeBit}
 use Rattle.llc_state.specs.States.{atTime, newState, startedState}

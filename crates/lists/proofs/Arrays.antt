@@ -98,6 +98,12 @@ module _ {A : Type 0} where
   drop-without (suc i) zero (x ∷ l) h k = absurd (omega (arith, h))
   drop-without (suc i) (suc m) (x ∷ l) h k = drop-without i m l (omega (arith, h)) (omega (arith, k))
 
+  -- An element that is there, whatever stands for none.
+  pub getD-there : (i : ℕ) (l : List A) (d e : A) → i < length l → getD l i d ≡ getD l i e
+  getD-there i [] d e h = absurd (omega (arith, h))
+  getD-there zero (x ∷ l) d e h = refl
+  getD-there (suc i) (x ∷ l) d e h = getD-there i l d e (omega (arith, h))
+
   -- An element of it, before the place and behind.
   pub getD-before : (i m : ℕ) (l : List A) (d : A) → m < i → i < length l → getD (without i l) m d ≡ getD l m d
   getD-before i m [] d h k = absurd (omega (arith, k))

@@ -42,14 +42,10 @@ module _ {A : Type 0} where
   all-filed P p y (x ∷ l) e a = either (All P) (p x) (e, a .1) (a .0, all-filed P p y l e (a .1))
 
   -- The table as an array: the row at the place where a search ends, and another put there.
-  -- What is asked of the row is the same of the element that stands for none.
-  pub first-at :
-      {B : Type 0} (g : A → B) (p : A → Bool) (d none : A) (l : List A)
-      → g d ≡ g none
-      → g (firstOr p d l) ≡ g (getD l (position p l) none)
+  pub first-at : (p : A → Bool) (d : A) (l : List A) → firstOr p d l ≡ getD l (position p l) d
   unfolding firstOr position
-  first-at g p d none [] same = same
-  first-at g p d none (x ∷ l) same = by-test (p x) (λ e. rw e) (λ e. rw e (first-at g p d none l same))
+  first-at p d [] = refl
+  first-at p d (x ∷ l) = by-test (p x) (λ e. rw e) (λ e. rw e (first-at p d l))
 
   pub filed-at : (p : A → Bool) (y : A) (l : List A) → filed p y l ≡ placed y (position p l) l
   unfolding filed position

@@ -6,6 +6,7 @@ pub use searches::expected_ack_for_ssi;
 pub use searches::free_place;
 pub use searches::holds;
 pub use searches::out_ack_if_any;
+pub use searches::send_seq;
 pub use searches::send_seq_row;
 pub use searches::waits;
 pub use updates::push_front_expected_ack;

@@ -1,11 +1,11 @@
 // Searches: each goes through what is in use, oldest first.
 ghost use Prim.Native.Nat.{_≤_};
 ghost use mathlib.Core.Path.{_≡_};
-ghost use lib.ListN.{take};
+ghost use lib.ListN.{getD, take};
 ghost use Rattle.lists.specs.Arrays.{position};
 ghost use Rattle.llc_steps.specs.States.{messagesOf};
 ghost use Rattle.llc_steps.specs.Places.{freePlace};
-ghost use Rattle.llc_steps.specs.Calls.{held, waits as waitsIn, rowOf};
+ghost use Rattle.llc_steps.specs.Calls.{held, waits as waitsIn, rowOf, newSeq};
 ghost use Rattle.llc_queues.specs.Queues.{ackOn, expectedOn};
 use llc_state::LinkSendSeq;
 use llc_state::STORE_PLACES;
@@ -42,6 +42,17 @@ pub fn send_seq_row(rows: [LinkSendSeq; 256], n: usize, ssi: u32) -> usize
         i += 1;
     }
     i
+}
+
+/// The row of a place among n; a new one of the SSI where there is none yet.
+pub fn send_seq(rows: [LinkSendSeq; 256], n: usize, i: usize, ssi: u32) -> LinkSendSeq
+    requires { ⌜ n ≤ 256 ⌝ }
+    ensures { λ r. ⌜ r ≡ getD (take n rows) i (newSeq ssi) ⌝ }
+{
+    if n <= i {
+        return LinkSendSeq { ssi, vs: false };
+    }
+    rows[i]
 }
 
 /// The place of the message of an SSI on a carrier that was passed down; the count if there is none.

@@ -25,7 +25,7 @@ use Rattle.llc_rule.specs.Records.{allBytes}
 use Rattle.llc_calls.specs.Ranges.{requestRange}
 use Rattle.llc_calls.specs.declared.RequestCall.{RequestCall}
 use Rattle.llc_state.specs.Ranges.{stateInRange}
-use Rattle.llc_state.specs.States.{noAck, noRow}
+use Rattle.llc_state.specs.States.{noAck}
 use Rattle.llc_state.specs.Receipts.{withPlaces, pendingPlace, takeReceipt}
 use Rattle.llc_state.specs.View.{placeBit}
 use Rattle.llc_state.specs.declared.Entry.{Entry}
@@ -36,7 +36,7 @@ use Rattle.llc_state.specs.declared.State.{State}
 use Rattle.llc_state.proofs.InRange.{range-tells}
 use Rattle.llc_state.proofs.Lengths.{Lengths}
 use Rattle.llc_steps.specs.Answers.{effect, answer, laidOut, WithAnyOut}
-use Rattle.llc_steps.specs.Calls.{entryOf, carrierFor, ackFor, seqOf, withSeq, dataPdu, withAcknowledged, withUnacknowledged, rowOf, newSeq}
+use Rattle.llc_steps.specs.Calls.{entryOf, carrierFor, ackFor, seqOf, withSeq, nextSeq, dataPdu, withAcknowledged, withUnacknowledged, rowOf, newSeq}
 use Rattle.llc_steps.specs.Places.{freePlace}
 use Rattle.llc_steps.specs.States.{messagesOf, udataOf, acksOf, rowsOf, withMessages, withUdata, withAcks, withRows, Kept}
 use Rattle.llc_steps.specs.declared.Answer.{Answer}
@@ -76,17 +76,6 @@ place-below s h =
     let us = length-take (s .«n_udata») (s .«outbound_udata_messages») in
     free-place s (omega arith) .0
 
--- The bit at the place of an SSI's row is the SSI's bit; another bit in the row's place.
-seq-is : (a : ℕ) (rs : List LinkSendSeq) → getD rs (position (rowOf a) rs) noRow .vs ≡ seqOf a rs
-seq-is a rs = sym (first-at (λ (w : LinkSendSeq). w .vs) (rowOf a) (newSeq a) noRow rs refl)
-
-rows-with :
-    (a : ℕ) (rs : List LinkSendSeq) {row : ℕ} {bit seq : Bool}
-    → row ≡ position (rowOf a) rs
-    → bit ≡ seq
-    → placed (record { ssi = a; vs = bit }) row rs ≡ withSeq a seq rs
-rows-with a rs {row} {bit} {seq} e f = rw (e, f) (sym (filed-at (rowOf a) (record { ssi = a; vs = seq }) rs))
-
 -- The header by the place of the acknowledgement due.
 pdu-by :
     (r : Request) (ns : Bool) (p : ScheduledOutAck → Bool) (ds : List ScheduledOutAck)
@@ -113,54 +102,55 @@ no-records s before after r k e f g =
 -- A message that is to be acknowledged, from what each step of the code gives.
 pub put-acknowledged :
     (r : Request) (s : State) (before after : List ℕ) (row : ℕ)
-    {carrier ack : ℕ} {ns : Bool} {pdu : Pdu} {place len : ℕ} {e : Entry} {s₁ s₂ s₃ s₄ : State} {x : Answer}
+    {carrier ack : ℕ} {seq : LinkSendSeq} {pdu : Pdu} {place len : ℕ} {e : Entry} {s₁ s₂ s₃ s₄ : State} {x : Answer}
     → Lengths s
     → stateInRange s ≡ true
     → row ≡ position (rowOf (r .ssi)) (rowsOf s)
     → carrier ≡ carrierFor r s
     → ack ≡ position (ackOn (r .ssi) carrier) (acksOf s)
-    → ns ≡ getD (rowsOf s) row noRow .vs
-    → pdu ≡ cond (ltb ack (s .«n_acks»)) (BlAdata (wantsFcs r) (getD (acksOf s) ack noAck .nr) ns) (BlData (wantsFcs r) ns)
+    → seq ≡ getD (rowsOf s) row (newSeq (r .ssi))
+    → pdu ≡ cond (ltb ack (s .«n_acks»)) (BlAdata (wantsFcs r) (getD (acksOf s) ack noAck .nr) (seq .vs)) (BlData (wantsFcs r) (seq .vs))
     → place ≡ freePlace s
     → after ≡ splice before (placeBit place) (frameBits pdu (r .sdu))
     → len ≡ length (frameBits pdu (r .sdu))
-    → e ≡ entryOf r carrier 0 place len ns
+    → e ≡ entryOf r carrier 0 place len (seq .vs)
     → s₁ ≡ withAcks s (without ack (acksOf s))
     → s₂ ≡ withMessages s₁ (messagesOf s₁ ++ (e ∷ []))
     → s₃ ≡ takeReceipt s₂ (r .receipt) true
-    → s₄ ≡ withRows s₃ (placed (record { ssi = r .ssi; vs = not ns }) row (rowsOf s₃))
+    → s₄ ≡ withRows s₃ (placed (nextSeq (r .ssi) seq) row (rowsOf s₃))
     → x ≡ answer 0 s₄ 0
     → WithAnyOut x after s before (accepted (withAcknowledged r s before))
 unfolding ackFor withAcknowledged
-put-acknowledged r s before after row {carrier} {ack} {ns} {pdu} {place} {len} {e} {s₁} {s₂} {s₃} {s₄} {x} long ok row-is
-    carrier-is ack-is ns-is pdu-is place-is after-is len-is e-is s₁-is s₂-is s₃-is s₄-is x-is =
+put-acknowledged r s before after row {carrier} {ack} {seq} {pdu} {place} {len} {e} {s₁} {s₂} {s₃} {s₄} {x} long ok row-is
+    carrier-is ack-is seq-is pdu-is place-is after-is len-is e-is s₁-is s₂-is s₃-is s₄-is x-is =
     let head = range-tells s ok .head in
     let p : ScheduledOutAck → Bool = ackOn (r .ssi) (carrierFor r s) in
     let ds : List ScheduledOutAck = acksOf s in
-    let seq : Bool = seqOf (r .ssi) (rowsOf s) in
+    let w : LinkSendSeq = seqOf (r .ssi) (rowsOf s) in
     let frame : Pdu → List ℕ = λ (t : Pdu). frameBits t (r .sdu) in
     let places : List ReceiptPlace = set (s .receipts) (r .receipt) (pendingPlace true) in
     let count : length ds ≡ s .«n_acks» =
     length-take-le (s .«n_acks») (s .«scheduled_out_acks») (omega (arith, long .acks, head .acks))
     in
     let ack-at : ack ≡ position p ds = ack-is ∙ ap (λ (k : ℕ). position (ackOn (r .ssi) k) ds) carrier-is in
-    let bit : ns ≡ seq = ns-is ∙ ap (λ (k : ℕ). getD (rowsOf s) k noRow .vs) row-is ∙ seq-is (r .ssi) (rowsOf s) in
-    let pdus : pdu ≡ dataPdu r seq (find p ds) =
+    let seqs : seq ≡ w = seq-is ∙ ap (λ (k : ℕ). getD (rowsOf s) k (newSeq (r .ssi))) row-is ∙ sym (first-at (rowOf (r .ssi)) (newSeq (r .ssi)) (rowsOf s)) in
+    let bit : seq .vs ≡ w .vs = ap (λ (x : LinkSendSeq). x .vs) seqs in
+    let pdus : pdu ≡ dataPdu r (w .vs) (find p ds) =
     pdu-is
     ∙ (λ i.
     cond (ltb (ack-at i) (sym count i)) (BlAdata (wantsFcs r) (getD ds (ack-at i) noAck .nr) (bit i)) (BlData (wantsFcs r) (bit i)))
-    ∙ pdu-by r seq p ds
+    ∙ pdu-by r (w .vs) p ds
     in
-    let entry : e ≡ entryOf r (carrierFor r s) 0 (freePlace s) (length (frame (dataPdu r seq (find p ds)))) seq =
+    let entry : e ≡ entryOf r (carrierFor r s) 0 (freePlace s) (length (frame (dataPdu r (w .vs) (find p ds)))) (w .vs) =
     e-is ∙ (λ i. entryOf r (carrier-is i) 0 (place-is i) ((len-is ∙ ap (λ (t : Pdu). length (frame t)) pdus) i) (bit i))
     in
     let dues : without ack ds ≡ others (find p ds) ds = ap (λ (k : ℕ). without k ds) ack-at ∙ sym (others-without p ds) in
-    let rows : placed (record { ssi = r .ssi; vs = not ns }) row (rowsOf s) ≡ withSeq (r .ssi) (not seq) (rowsOf s) =
-    rows-with (r .ssi) (rowsOf s) row-is (ap not bit)
+    let rows : placed (nextSeq (r .ssi) seq) row (rowsOf s) ≡ withSeq (r .ssi) (nextSeq (r .ssi) w) (rowsOf s) =
+    (λ i. placed (nextSeq (r .ssi) (seqs i)) (row-is i) (rowsOf s)) ∙ sym (filed-at (rowOf (r .ssi)) (nextSeq (r .ssi) w) (rowsOf s))
     in
     let state : s₄ ≡ withAcknowledged r s before .state =
     s₄-is
-    ∙ ap (λ (t : State). withRows t (placed (record { ssi = r .ssi; vs = not ns }) row (rowsOf t)))
+    ∙ ap (λ (t : State). withRows t (placed (nextSeq (r .ssi) seq) row (rowsOf t)))
     (s₃-is
     ∙ ap (λ (t : State). takeReceipt t (r .receipt) true)
     (s₂-is ∙ ap (λ (t : State). withMessages t (messagesOf t ++ (e ∷ []))) s₁-is))

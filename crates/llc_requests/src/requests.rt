@@ -12,7 +12,7 @@ ghost use Rattle.llc_rule.specs.Limits.{storeBytes};
 ghost use Rattle.llc_calls.specs.Decoded.{requestOf, RequestInside};
 ghost use Rattle.llc_calls.specs.Ranges.{requestRange};
 ghost use Rattle.llc_state.specs.Ranges.{stateInRange};
-ghost use Rattle.llc_state.specs.States.{noAck, noRow};
+ghost use Rattle.llc_state.specs.States.{noAck};
 ghost use Rattle.llc_steps.specs.Answers.{WithAnyOut};
 ghost use Rattle.llc_steps.specs.States.{acksOf, rowsOf};
 ghost use Rattle.llc_steps.specs.Calls.{withAcknowledged, withUnacknowledged, onData, onUnitdata, rowOf};
@@ -24,6 +24,7 @@ use llc_queues::free_place;
 use llc_queues::out_ack_if_any;
 use llc_queues::push_message;
 use llc_queues::push_udata_message;
+use llc_queues::send_seq;
 use llc_queues::send_seq_row;
 use llc_queues::set_send_seq;
 use llc_queues::take_out_ack;
@@ -40,17 +41,6 @@ fn preferred_carrier(q: RequestCall, main_carrier: u16) -> u16
         return q.carrier;
     }
     main_carrier
-}
-
-// The bit of the row of a place among n; not set where there is none yet.
-fn send_seq(rows: [LinkSendSeq; 256], n: usize, row: usize) -> bool
-    requires { ⌜ n ≤ 256 ⌝ }
-    ensures { λ r. ⌜ r ≡ getD (take n rows) row noRow .vs ⌝ }
-{
-    if n <= row {
-        return false;
-    }
-    rows[row].vs
 }
 
 // BL-ADATA with the N(R) of the acknowledgement at a place among n, or BL-DATA where there is none.
@@ -89,7 +79,8 @@ fn put_acknowledged(
     let acks = state.scheduled_out_acks;
     let rows = state.link_send_seq;
     let ack = out_ack_if_any(acks, state.n_acks, q.ssi, carrier);
-    let ns = send_seq(rows, state.n_rows, row);
+    let seq = send_seq(rows, state.n_rows, row, q.ssi);
+    let ns = seq.vs;
     let pdu = data_pdu(acks, state.n_acks, ack, q.flags / 2 % 2 == 1, ns);
     let place = free_place(state);
     let len = put_frame(store, place, pdu, q, bytes);

@@ -19,8 +19,9 @@ use Rattle.tx_receipt.specs.Marks.{Mark}
 use Rattle.llc_rule.specs.Records.{Record, ssiOf, Sent}
 use Rattle.llc_rule.specs.Messages.{Message, Due, Place, free, placeAt, mark}
 use Rattle.llc_rule.specs.Done.{Done, done}
-use Rattle.llc_rule.specs.Link.{Link, Row, bitOf, withBit, isRowOf, newRow}
-use Rattle.llc_rule.specs.Rule.{Own, keepingBit, keepingAcknowledged, keepingUnacknowledged, keepingDue, keepingReceipts}
+use Rattle.llc_rule.specs.Link.{Link, Row, numbersOf, withNumbers, isRowOf, rowWith}
+use Rattle.llc_rule.specs.Keeps.{Numbers, noNumbers, acknowledgedNow, unacknowledgedNow, dueNow, withReceipts, withRows}
+use Rattle.llc_rule.specs.Rule.{Own}
 use Rattle.llc_rule.specs.Past.{Holders, holding, isHolder}
 use Rattle.llc_rule.specs.Sound.{ofAddress}
 use Rattle.llc_rule.proofs.Places.{place-set, place-mark, length-mark}
@@ -50,11 +51,11 @@ own a h l =
       carrier = l .carrier;
       t251 = l .t251;
       time = l .time;
-      bit = bitOf a (l .rows);
       acknowledged = ofAddress a (l .acknowledged);
       unacknowledged = keep (sentTo a) (l .unacknowledged);
       due = keep (dueTo a) (l .due);
       receipts = blank a h (l .receipts);
+      rows = numbersOf a (l .rows);
     }
 
 -- What all addresses share of a link.
@@ -69,28 +70,28 @@ shared l = record { started = l .started; carrier = l .carrier; t251 = l .t251; 
 
 -- What an address has of a link l′ beside another link l, by the parts.
 pub own-parts :
-    (a : ℕ) (h h′ : Holders) (l l′ : Link) {b : Bool} {ms : List Message} {us : List Sent} {ds : List Due} {ps : List Place}
+    (a : ℕ) (h h′ : Holders) (l l′ : Link) {n : Numbers} {ms : List Message} {us : List Sent} {ds : List Due} {ps : List Place}
     → shared l′ ≡ shared l
-    → bitOf a (l′ .rows) ≡ b
+    → numbersOf a (l′ .rows) ≡ n
     → ofAddress a (l′ .acknowledged) ≡ ms
     → keep (sentTo a) (l′ .unacknowledged) ≡ us
     → keep (dueTo a) (l′ .due) ≡ ds
     → blank a h′ (l′ .receipts) ≡ ps
     → own a h′ l′
-    ≡ keepingReceipts (keepingDue (keepingUnacknowledged (keepingAcknowledged (keepingBit (own a h l) b) ms) us) ds) ps
+    ≡ withReceipts (dueNow (unacknowledgedNow (acknowledgedNow (withRows (own a h l) n) ms) us) ds) ps
 unfolding own
-own-parts a h h′ l l′ all bits messages sents dues places =
+own-parts a h h′ l l′ all numbers messages sents dues places =
     λ i.
     record {
       started = all i .started;
       carrier = all i .carrier;
       t251 = all i .t251;
       time = all i .time;
-      bit = bits i;
       acknowledged = messages i;
       unacknowledged = sents i;
       due = dues i;
       receipts = places i;
+      rows = numbers i;
     }
 
 -- An outcome on the link, as an address has it.
@@ -168,14 +169,15 @@ blank-set-other a h i who p ps lt e was =
 
 -- Rows ------------------------------------------------------------------------------------------------------------------------
 
-pub bit-own : (a : ℕ) (b : Bool) (rs : List Row) → bitOf a (withBit a b rs) ≡ b
-bit-own a b rs =
-    ap (λ (w : Row). w .bit) (first-filed (isRowOf a) (newRow a) (record { ssi = a; bit = b }) rs (eq-eqb a a refl))
+pub numbers-own : (a : ℕ) (n : Numbers) (rs : List Row) → numbersOf a (withNumbers a n rs) ≡ n
+numbers-own a n rs =
+    ap (λ (w : Row). w .numbers) (first-filed (isRowOf a) (rowWith a noNumbers) (rowWith a n) rs (eq-eqb a a refl))
 
-pub bit-other : (a c : ℕ) (b : Bool) (rs : List Row) → eqb c a ≡ false → bitOf a (withBit c b rs) ≡ bitOf a rs
-bit-other a c b rs e =
-    ap (λ (w : Row). w .bit)
-    (first-beside (isRowOf c) (isRowOf a) (newRow a) (record { ssi = c; bit = b }) rs
+pub numbers-other :
+    (a c : ℕ) (n : Numbers) (rs : List Row) → eqb c a ≡ false → numbersOf a (withNumbers c n rs) ≡ numbersOf a rs
+numbers-other a c n rs e =
+    ap (λ (w : Row). w .numbers)
+    (first-beside (isRowOf c) (isRowOf a) (rowWith a noNumbers) (rowWith c n) rs
     (λ w t. rw (eqb-true (w .ssi) c t) e)
     (eq-eqb c c refl))
 

@@ -24,7 +24,8 @@ use Rattle.llc_rule.specs.Records.{Record}
 use Rattle.llc_rule.specs.Upward.{upward}
 use Rattle.llc_rule.specs.Messages.{Due, free, mark, markOf}
 use Rattle.llc_rule.specs.Done.{Done, done}
-use Rattle.llc_rule.specs.Link.{Link, startedWith, withTime, withReceipts, dueNow}
+use Rattle.llc_rule.specs.Keeps.{withTime, dueNow, withReceipts}
+use Rattle.llc_rule.specs.Link.{Link, startedWith}
 use Rattle.llc_rule.specs.Step.{isDueFor, dueFor, receiptFree, rowFor, acknowledgedPlace, unacknowledgedPlace, onAcknowledgedPath, withAcknowledged, withUnacknowledged, withStolen, onData, onUnitdata, dueRoom, withDue, mayFinish, answered, onReceived, onFrame, reportable, onReport, releasable, onRelease, onTickEnd, onReceipt, act, called, step}
 
 -- The numbers of refusals ---------------------------------------------------------------------------------------------------

@@ -19,9 +19,10 @@ use Rattle.llc_rule.specs.Calls.{Frame}
 use Rattle.llc_rule.specs.Records.{Record, dataUp, ssiOf}
 use Rattle.llc_rule.specs.Upward.{indication, unlessEmpty, upward}
 use Rattle.llc_rule.specs.Messages.{Message, Due, Place, mark, slotBefore}
-use Rattle.llc_rule.specs.Link.{Link, acknowledgedNow, dueNow, withReceipts}
+use Rattle.llc_rule.specs.Keeps.{acknowledgedNow, dueNow, withReceipts}
+use Rattle.llc_rule.specs.Link.{Link}
 use Rattle.llc_rule.specs.Step.{dueRoom, withDue, awaiting, fits, finishable, mayFinish, answeredBy, answered, onReceived}
-use Rattle.llc_rule.specs.Rule.{Own, keepingAcknowledged, keepingDue, keepingReceipts, madeDue, theOne, oneTransmitted, canFinish, finished, heard, afterReceived}
+use Rattle.llc_rule.specs.Rule.{Own, madeDue, theOne, oneTransmitted, canFinish, finished, heard, afterReceived}
 use Rattle.llc_rule.specs.Past.{Holders, isHolder}
 use Rattle.llc_rule.specs.Sound.{Owned, ofAddress, oneAhead, Sound}
 use Rattle.llc_rule.proofs.Paths.{afterHeard}
@@ -167,7 +168,7 @@ module _ (f : Frame) (h : Holders) (l : Link) (ok : Sound h l) where
   linkWith ms ds ps = withReceipts (dueNow (acknowledgedNow l ms) ds) ps
 
   abbrev ownWith : List Message → List Due → List Place → Own
-  ownWith ms ds ps = keepingReceipts (keepingDue (keepingAcknowledged (own (f .ssi) h l) ms) ds) ps
+  ownWith ms ds ps = withReceipts (dueNow (acknowledgedNow (own (f .ssi) h l) ms) ds) ps
 
   own-with : (ms : List Message) (ds : List Due) (ps : List Place) (ns : List Message) (qs : List Place) → ofAddress (f .ssi) ms ≡ ns → blank (f .ssi) h ps ≡ qs
       → own (f .ssi) h (linkWith ms ds ps) ≡ ownWith ns (keep (dueTo (f .ssi)) ds) qs
@@ -181,7 +182,7 @@ module _ (f : Frame) (h : Holders) (l : Link) (ok : Sound h l) where
       → awaiting f l ≡ x
       → theOne (own (f .ssi) h l) ≡ t
       → Looked f x t
-      → own (f .ssi) h (answeredBy nr x (dueNow l ds)) ≡ finished f nr t (keepingDue (own (f .ssi) h l) (keep (dueTo (f .ssi)) ds))
+      → own (f .ssi) h (answeredBy nr x (dueNow l ds)) ≡ finished f nr t (dueNow (own (f .ssi) h l) (keep (dueTo (f .ssi)) ds))
   unfolding own answeredBy theOne
   finish nr ds x t e g no-one = refl
   finish nr ds x t e g (elsewhere m ms c) = rw c
@@ -207,7 +208,7 @@ module _ (f : Frame) (h : Holders) (l : Link) (ok : Sound h l) where
       ∙ own-with (m ∷ xs) ds (l .receipts) (ofAddress a (l .acknowledged)) (blank a h (l .receipts)) was refl
       ∙ sym (if-false gone-own same-own (and-false (onCarrier f m) u)))
 
-  heard-own : (x : Option Bool) (ds : List Due) → own (f .ssi) h (answered f x (dueNow l ds)) ≡ heard f x (keepingDue (own (f .ssi) h l) (keep (dueTo (f .ssi)) ds))
+  heard-own : (x : Option Bool) (ds : List Due) → own (f .ssi) h (answered f x (dueNow l ds)) ≡ heard f x (dueNow (own (f .ssi) h l) (keep (dueTo (f .ssi)) ds))
   unfolding own awaiting theOne
   heard-own none ds = refl
   heard-own (some nr) ds = finish nr ds (awaiting f l) (theOne (own (f .ssi) h l)) refl refl looked

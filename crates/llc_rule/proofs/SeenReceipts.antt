@@ -13,9 +13,10 @@ use Rattle.lists.proofs.Choices.{by-test, both}
 use Rattle.tx_receipt.specs.Marks.{Mark}
 use Rattle.llc_rule.specs.Records.{Record, Sent}
 use Rattle.llc_rule.specs.Messages.{Message, Place, free, placeAt, mark, markOf}
-use Rattle.llc_rule.specs.Link.{Link, withReceipts}
+use Rattle.llc_rule.specs.Keeps.{withReceipts}
+use Rattle.llc_rule.specs.Link.{Link}
 use Rattle.llc_rule.specs.Step.{held, waits, reportable, releasable, onReport, onRelease}
-use Rattle.llc_rule.specs.Rule.{keepingReceipts, stillWaits, stillHeld, afterReport, afterRelease}
+use Rattle.llc_rule.specs.Rule.{stillWaits, stillHeld, afterReport, afterRelease}
 use Rattle.llc_rule.specs.Past.{Holders, holding, isHolder}
 use Rattle.llc_rule.specs.Sound.{Owned, Sound}
 use Rattle.llc_rule.proofs.Own.{sentTo, own, seenAs, any-keep, place-own, own-parts, blank-mark, blank-mark-other, blank-set, blank-set-other, place-blank}
@@ -62,7 +63,7 @@ module _ (a i : ℕ) (h : Holders) (l : Link) (who : h i ≡ some a) (ok : Sound
       (λ m o e. same-holder a i h (l .receipts) (m .sent) who o e) (ok .owned)))
       unacknowledged-with
 
-  receipts-own : (k : Mark) → own a h (withReceipts l (mark k i (l .receipts))) ≡ keepingReceipts (own a h l) (mark k i (own a h l .receipts))
+  receipts-own : (k : Mark) → own a h (withReceipts l (mark k i (l .receipts))) ≡ withReceipts (own a h l) (mark k i (own a h l .receipts))
   unfolding own
   receipts-own k =
       let places = blank-mark a h k i (l .receipts) is-holder in
@@ -74,7 +75,7 @@ module _ (a i : ℕ) (h : Holders) (l : Link) (who : h i ≡ some a) (ok : Sound
       rw (waits-own, place-is)
       (by-test (reportable i l) (λ t. rw (t, receipts-own (markOf how), place-is)) (λ t. rw t))
 
-  freed-own : i < length (l .receipts) → own a (holding i none h) (withReceipts l (set (l .receipts) i free)) ≡ keepingReceipts (own a h l) (set (own a h l .receipts) i free)
+  freed-own : i < length (l .receipts) → own a (holding i none h) (withReceipts l (set (l .receipts) i free)) ≡ withReceipts (own a h l) (set (own a h l .receipts) i free)
   unfolding own
   freed-own lt =
       let places = blank-set a h i none free (l .receipts) lt refl in

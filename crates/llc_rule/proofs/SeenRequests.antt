@@ -16,13 +16,14 @@ use Rattle.llc_rule.specs.Calls.{Request}
 use Rattle.llc_rule.specs.Ranges.{steals, wantsFcs}
 use Rattle.llc_rule.specs.Records.{Sent}
 use Rattle.llc_rule.specs.Messages.{Message, Due, Place, free, taken, placeAt, isFree, pending, waiting, carrierOf, sentOf}
-use Rattle.llc_rule.specs.Link.{Link, bitOf}
+use Rattle.llc_rule.specs.Link.{Link, bitOf, numbersOf}
 use Rattle.llc_rule.specs.Step.{isDueFor, dueFor, onAcknowledgedPath, dataPdu, withAcknowledged, withUnacknowledged, withStolen}
-use Rattle.llc_rule.specs.Rule.{Own, keepingBit, keepingAcknowledged, keepingUnacknowledged, keepingDue, keepingReceipts, dueOn, requested, afterData, afterUnitdata}
+use Rattle.llc_rule.specs.Keeps.{withBit, acknowledgedNow, unacknowledgedNow, dueNow, withReceipts, withRows}
+use Rattle.llc_rule.specs.Rule.{Own, dueOn, requested, afterData, afterUnitdata}
 use Rattle.llc_rule.specs.Past.{Holders, holding, isHolder}
 use Rattle.llc_rule.specs.Sound.{ofAddress}
 use Rattle.llc_rule.proofs.Paths.{Acknowledged, Unacknowledged}
-use Rattle.llc_rule.proofs.Own.{sentTo, dueTo, blank, own, keepFound, find-keep, keep-taken, bit-own, own-parts, bit-other, blank-set, blank-set-other, place-blank}
+use Rattle.llc_rule.proofs.Own.{sentTo, dueTo, blank, own, keepFound, find-keep, keep-taken, numbers-own, own-parts, numbers-other, blank-set, blank-set-other, place-blank}
 
 -- The acknowledgement due, as its address finds it.
 due-own : (r : Request) (h : Holders) (l : Link) → dueOn (carrierOf (l .carrier) r) (own (r .ssi) h l) ≡ keepFound (dueTo (r .ssi)) (dueFor r l)
@@ -46,14 +47,14 @@ rule-acknowledged :
     → steals r ≡ false
     → eqb (r .type) 1 ≡ true
     → afterData r o
-    ≡ keepingBit
-    (keepingReceipts
-    (keepingDue
-    (keepingAcknowledged o
-    (o .acknowledged ++ (waiting (sentOf r (carrierOf (o .carrier) r) 0 (dataPdu r (o .bit) f)) (o .bit) ∷ [])))
+    ≡ withRows
+    (withReceipts
+    (dueNow
+    (acknowledgedNow o
+    (o .acknowledged ++ (waiting (sentOf r (carrierOf (o .carrier) r) 0 (dataPdu r (o .rows .bit) f)) (o .rows .bit) ∷ [])))
     (others f (o .due)))
     (set (o .receipts) (r .receipt) (pending true)))
-    (not (o .bit))
+    (withBit (o .rows) (not (o .rows .bit)))
 unfolding afterData requested
 rule-acknowledged r o nothing e s t = rw (e, s, t)
 rule-acknowledged r o (first d ds) e s t = rw (e, s, t)
@@ -81,22 +82,22 @@ acknowledged-own r h l s t lt =
     let a : ℕ = r .ssi in
     let b : Bool = bitOf a (l .rows) in
     let c : ℕ = carrierOf (l .carrier) r in
-    let bits = bit-own a (not b) (l .rows) in
+    let numbers = numbers-own a (withBit (numbersOf a (l .rows)) (not b)) (l .rows) in
     let messages =
     message-own r c 0 (dataPdu r b (dueFor r l)) b (l .acknowledged)
     ∙ ap (λ (p : Pdu). ofAddress a (l .acknowledged) ++ (waiting (sentOf r c 0 p) b ∷ [])) (sym (data-pdu-own r b a (dueFor r l)))
     in
     let dues = sym (others-own a (dueFor r l) (l .due)) in
     let places = blank-set a h (r .receipt) (some a) (pending true) (l .receipts) lt (rw (eq-eqb a a refl)) in
-    own-parts a h (holding (r .receipt) (some (r .ssi)) h) l (withAcknowledged r l) refl bits messages refl dues places
+    own-parts a h (holding (r .receipt) (some (r .ssi)) h) l (withAcknowledged r l) refl numbers messages refl dues places
     ∙ sym (rule-acknowledged r (own a h l) (keepFound (dueTo a) (dueFor r l)) (due-own r h l) s t)
 
 -- What the rule keeps after an unacknowledged message, with the acknowledgements that are left due.
 abbrev ruleUnacknowledged : Request → ℕ → Pdu → List Due → Own → Own
 ruleUnacknowledged r k p ds o =
-    keepingReceipts
-    (keepingDue
-    (keepingUnacknowledged o (o .unacknowledged ++ (sentOf r (carrierOf (o .carrier) r) k p ∷ [])))
+    withReceipts
+    (dueNow
+    (unacknowledgedNow o (o .unacknowledged ++ (sentOf r (carrierOf (o .carrier) r) k p ∷ [])))
     ds)
     (set (o .receipts) (r .receipt) (pending false))
 
@@ -231,7 +232,7 @@ pub acknowledged-other :
 unfolding own withAcknowledged dueFor
 acknowledged-other a r h l k e lt =
     let b : Bool = bitOf (r .ssi) (l .rows) in
-    let bits = bit-other a (r .ssi) (not b) (l .rows) e in
+    let numbers = numbers-other a (r .ssi) (withBit (numbersOf (r .ssi) (l .rows)) (not b)) (l .rows) e in
     let messages =
     message-other a r (carrierOf (l .carrier) r) 0 (dataPdu r b (dueFor r l)) b (l .acknowledged) e
     in
@@ -239,7 +240,7 @@ acknowledged-other a r h l k e lt =
     let places =
     blank-set-other a h (r .receipt) (some (r .ssi)) (pending true) (l .receipts) lt e (blank-free a h (l .receipts) (r .receipt) (k .free))
     in
-    own-parts a h (holding (r .receipt) (some (r .ssi)) h) l (withAcknowledged r l) refl bits messages refl dues places
+    own-parts a h (holding (r .receipt) (some (r .ssi)) h) l (withAcknowledged r l) refl numbers messages refl dues places
 
 pub unacknowledged-other :
     (a : ℕ) (r : Request) (h : Holders) (l : Link) (link : ℕ) (p : Pdu) (used : Found Due)

@@ -19,7 +19,8 @@ use Rattle.tx_receipt.specs.declared.TxState.the-variants.{Pending}
 use Rattle.llc_rule.specs.Calls.{Call, parsed}
 use Rattle.llc_rule.specs.Records.{Record}
 use Rattle.llc_rule.specs.Messages.{Message, free, placeAt, taken?, mark, markOf, noReceipts}
-use Rattle.llc_rule.specs.Link.{Link, new, startedWith, withTime, withReceipts}
+use Rattle.llc_rule.specs.Keeps.{withTime, withReceipts}
+use Rattle.llc_rule.specs.Link.{Link, new, startedWith}
 use Rattle.llc_rule.specs.Step.{held, waits, step}
 use Rattle.llc_rule.specs.Runs.{left, exchange, run, after}
 use Rattle.llc_rule.specs.Past.{Holding, stays, aboutCall, about, Holders, nobody, holding, heldAfter, doneTo, holders, History, nothingYet, andThen, history, holdersAfter}

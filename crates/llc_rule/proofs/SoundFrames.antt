@@ -18,7 +18,8 @@ use Rattle.llc_pdus.specs.Received.{Received}
 use Rattle.llc_rule.specs.Calls.{Frame}
 use Rattle.llc_rule.specs.Records.{Sent}
 use Rattle.llc_rule.specs.Messages.{Message, Due, mark}
-use Rattle.llc_rule.specs.Link.{Link, acknowledgedNow, dueNow, withReceipts}
+use Rattle.llc_rule.specs.Keeps.{acknowledgedNow, dueNow, withReceipts}
+use Rattle.llc_rule.specs.Link.{Link}
 use Rattle.llc_rule.specs.Step.{dueRoom, withDue, awaiting, fits, answeredBy, answered}
 use Rattle.llc_rule.specs.Past.{Holders}
 use Rattle.llc_rule.specs.Sound.{acknowledgedWith, unacknowledgedWith, Sound}

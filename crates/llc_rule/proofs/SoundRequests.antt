@@ -18,7 +18,8 @@ use Rattle.llc_rule.specs.Calls.{Request}
 use Rattle.llc_rule.specs.Ranges.{requestInRange}
 use Rattle.llc_rule.specs.Records.{Sent}
 use Rattle.llc_rule.specs.Messages.{Message, waiting, Due, Place, free, pending, placeAt, isFree, carrierOf, sentOf}
-use Rattle.llc_rule.specs.Link.{Link, Row, acknowledgedNow, unacknowledgedNow, dueNow, withReceipts, withRows, bitOf, withBit, isRowOf, withRow}
+use Rattle.llc_rule.specs.Keeps.{Numbers, withBit, acknowledgedNow, unacknowledgedNow, dueNow, withReceipts, withRows}
+use Rattle.llc_rule.specs.Link.{Link, Row, bitOf, numbersOf, withNumbers, rowWith, isRowOf}
 use Rattle.llc_rule.specs.Step.{isDueFor, dueFor, rowFor, dataPdu, withAcknowledged, withUnacknowledged}
 use Rattle.llc_rule.specs.Past.{Holders, holding}
 use Rattle.llc_rule.specs.Sound.{Owned, IsPending, Expects, Waiting, acknowledgedWith, unacknowledgedWith, ofAddress, Sound}
@@ -215,14 +216,14 @@ sound-unacknowledged h l t ds b f room roomDue s =
 
 -- A row is written in the place of the address's row, or is one more.
 rows-within :
-    (l : Link) (w : Row)
-    → rowFor (w .ssi) l ≡ true
+    (l : Link) (a : ℕ) (n : Numbers)
+    → rowFor a l ≡ true
     → length (l .rows) ≤ 256
-    → length (withRow w (l .rows)) ≤ 256
+    → length (withNumbers a n (l .rows)) ≤ 256
 unfolding rowFor
-rows-within l w e h =
-    rw (length-filed (isRowOf (w .ssi)) w (l .rows))
-    (by-test (any (isRowOf (w .ssi)) (l .rows))
+rows-within l a n e h =
+    rw (length-filed (isRowOf a) (rowWith a n) (l .rows))
+    (by-test (any (isRowOf a) (l .rows))
     (λ q. rw q h)
     (λ q. rw q (ltb-true (length (l .rows)) 256 (rw q at e))))
 
@@ -254,12 +255,12 @@ sound-with-acknowledged h l r a s =
     sound-acknowledged h l (sentOf r (carrierOf (l .carrier) r) 0 (dataPdu r (bitOf (r .ssi) (l .rows)) (dueFor r l)))
     (bitOf (r .ssi) (l .rows))
     (others (dueFor r l) (l .due))
-    (withBit (r .ssi) (not (bitOf (r .ssi) (l .rows))) (l .rows))
+    (withNumbers (r .ssi) (withBit (numbersOf (r .ssi) (l .rows)) (not (bitOf (r .ssi) (l .rows)))) (l .rows))
     (receipt-within r (a .range))
     (a .free)
     (ltb-true (length (l .acknowledged)) 64 (a .place))
     (omega (arith, due-within r l, s .limits .due))
-    (rows-within l (record { ssi = r .ssi; bit = not (bitOf (r .ssi) (l .rows)) }) (a .row) (s .limits .rows))
+    (rows-within l (r .ssi) (withBit (numbersOf (r .ssi) (l .rows)) (not (bitOf (r .ssi) (l .rows)))) (a .row) (s .limits .rows))
     s
 
 pub sound-with-unacknowledged :

@@ -18,7 +18,8 @@ use Rattle.llc_rule.specs.Limits.{longestFrame, storeBytes, outputBytes}
 use Rattle.llc_rule.specs.Calls.{toBytes}
 use Rattle.llc_rule.specs.Records.{Record, acknowledged, reply, unacknowledged, dataUp, unitdataUp, Sent, Indication}
 use Rattle.llc_rule.specs.Messages.{Place, free, taken, pending, marked}
-use Rattle.llc_rule.specs.Link.{Link, new, withReceipts}
+use Rattle.llc_rule.specs.Keeps.{withReceipts}
+use Rattle.llc_rule.specs.Link.{Link, new}
 use Rattle.llc_rule.specs.Step.{step}
 use Rattle.llc_rule.specs.Rule.{atFirst, afterStart, afterReport, does, judged, rule}
 use Rattle.llc_rule.specs.Runs.{Exchange, after}

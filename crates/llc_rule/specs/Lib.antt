@@ -5,6 +5,7 @@ pub mod Ranges
 pub mod Upward
 pub mod Messages
 pub mod Done
+pub mod Keeps
 pub mod Link
 pub mod Step
 pub mod Rule

@@ -22,140 +22,26 @@ use Rattle.llc_rule.specs.Calls.{Call, start, tickStart, tickEnd, reques
 use Rattle.llc_rule.specs.Ranges.{steals, wantsFcs, inRange}
 use Rattle.llc_rule.specs.Records.{Record, acknowledged, unacknowledged, Sent}
 use Rattle.llc_rule.specs.Upward.{upward}
-use Rattle.llc_rule.specs.Messages.{Message, waiting, submittedAfter, doneAt, hasTime, overdue, Due, slotBefore, replyTo, Place, free, placeAt, pending, taken?, mark, markOf, reported, carrierOf, sentOf, noReceipts}
+use Rattle.llc_rule.specs.Messages.{Message, waiting, submittedAfter, doneAt, hasTime, overdue, Due, slotBefore, replyTo, Place, free, placeAt, pending, taken?, mark, markOf, reported, carrierOf, sentOf}
 use Rattle.llc_rule.specs.Done.{Done, done}
+use Rattle.llc_rule.specs.Keeps.{Keeps, Numbers, noNumbers, withBit, nothingHeld, withTime, acknowledgedNow, unacknowledgedNow, dueNow, withReceipts, withRows}
 
 -- "The rule keeps whether it is started, main carrier, T251, time, the row's bit, acknowledged and unacknowledged messages and
 -- due acknowledgements in order, and receipts with marks."
-pub record Own : Type 0 where
-  pub started : Bool
-  pub carrier : ℕ
-  pub t251 : ℕ
-  pub time : TdmaTime
-  pub bit : Bool
-  pub acknowledged : List Message
-  pub unacknowledged : List Sent
-  pub due : List Due
-  pub receipts : List Place
+abbrev pub Own : Type 0
+Own = Keeps Numbers
 
 -- "At first it is not started and empty."
 unfoldable pub atFirst : Own
-atFirst =
-    record {
-      started = false;
-      carrier = 0;
-      t251 = 0;
-      time = Slots.first;
-      bit = false;
-      acknowledged = [];
-      unacknowledged = [];
-      due = [];
-      receipts = noReceipts;
-    }
+atFirst = nothingHeld false 0 0 noNumbers
 
 -- "Start empties everything and sets carrier and T251."
 unfoldable pub afterStart : ℕ → ℕ → Own
-afterStart carrier t251 =
-    record {
-      started = true;
-      carrier = carrier;
-      t251 = t251;
-      time = Slots.first;
-      bit = false;
-      acknowledged = [];
-      unacknowledged = [];
-      due = [];
-      receipts = noReceipts;
-    }
-
--- What the rule keeps, with another time, bit, acknowledged or unacknowledged messages, acknowledgements due or receipts.
-abbrev pub keepingTime : Own → TdmaTime → Own
-keepingTime o t =
-    record {
-      started = o .started;
-      carrier = o .carrier;
-      t251 = o .t251;
-      time = t;
-      bit = o .bit;
-      acknowledged = o .acknowledged;
-      unacknowledged = o .unacknowledged;
-      due = o .due;
-      receipts = o .receipts;
-    }
-
-abbrev pub keepingBit : Own → Bool → Own
-keepingBit o b =
-    record {
-      started = o .started;
-      carrier = o .carrier;
-      t251 = o .t251;
-      time = o .time;
-      bit = b;
-      acknowledged = o .acknowledged;
-      unacknowledged = o .unacknowledged;
-      due = o .due;
-      receipts = o .receipts;
-    }
-
-abbrev pub keepingAcknowledged : Own → List Message → Own
-keepingAcknowledged o ms =
-    record {
-      started = o .started;
-      carrier = o .carrier;
-      t251 = o .t251;
-      time = o .time;
-      bit = o .bit;
-      acknowledged = ms;
-      unacknowledged = o .unacknowledged;
-      due = o .due;
-      receipts = o .receipts;
-    }
-
-abbrev pub keepingUnacknowledged : Own → List Sent → Own
-keepingUnacknowledged o us =
-    record {
-      started = o .started;
-      carrier = o .carrier;
-      t251 = o .t251;
-      time = o .time;
-      bit = o .bit;
-      acknowledged = o .acknowledged;
-      unacknowledged = us;
-      due = o .due;
-      receipts = o .receipts;
-    }
-
-abbrev pub keepingDue : Own → List Due → Own
-keepingDue o ds =
-    record {
-      started = o .started;
-      carrier = o .carrier;
-      t251 = o .t251;
-      time = o .time;
-      bit = o .bit;
-      acknowledged = o .acknowledged;
-      unacknowledged = o .unacknowledged;
-      due = ds;
-      receipts = o .receipts;
-    }
-
-abbrev pub keepingReceipts : Own → List Place → Own
-keepingReceipts o ps =
-    record {
-      started = o .started;
-      carrier = o .carrier;
-      t251 = o .t251;
-      time = o .time;
-      bit = o .bit;
-      acknowledged = o .acknowledged;
-      unacknowledged = o .unacknowledged;
-      due = o .due;
-      receipts = ps;
-    }
+afterStart carrier t251 = nothingHeld true carrier t251 noNumbers
 
 -- "Tick start sets the time."
 abbrev pub afterTick : TdmaTime → Own → Own
-afterTick t o = keepingTime o t
+afterTick t o = withTime o t
 
 -- "An acknowledgement due on that SSI and carrier", the oldest.
 unfoldable pub dueOn : ℕ → Own → Found Due
@@ -179,16 +65,16 @@ madeOf r ns false false nothing = acknowledgedly (BlData (wantsFcs r) ns)
 -- "A request takes its receipt as Pending and puts its message last."
 unfoldable pub requested : Request → Own → Found Due → Made → Own
 requested r o found (acknowledgedly p) =
-    let m = waiting (sentOf r (carrierOf (o .carrier) r) 0 p) (o .bit) in
-    keepingBit
-    (keepingReceipts
-    (keepingDue (keepingAcknowledged o (o .acknowledged ++ (m ∷ []))) (others found (o .due)))
+    let m = waiting (sentOf r (carrierOf (o .carrier) r) 0 p) (o .rows .bit) in
+    withRows
+    (withReceipts
+    (dueNow (acknowledgedNow o (o .acknowledged ++ (m ∷ []))) (others found (o .due)))
     (set (o .receipts) (r .receipt) (pending true)))
-    (not (o .bit))
+    (withBit (o .rows) (not (o .rows .bit)))
 requested r o found (unacknowledgedly link p uses) =
-    keepingReceipts
-    (keepingDue
-    (keepingUnacknowledged o (o .unacknowledged ++ (sentOf r (carrierOf (o .carrier) r) link p ∷ [])))
+    withReceipts
+    (dueNow
+    (unacknowledgedNow o (o .unacknowledged ++ (sentOf r (carrierOf (o .carrier) r) link p ∷ [])))
     (cond uses (others found (o .due)) (o .due)))
     (set (o .receipts) (r .receipt) (pending false))
 
@@ -196,7 +82,7 @@ requested r o found (unacknowledgedly link p uses) =
 unfoldable pub afterData : Request → Own → Own
 afterData r o =
     requested r o (dueOn (carrierOf (o .carrier) r) o)
-    (madeOf r (o .bit) (steals r) (not (eqb (r .type) 1)) (dueOn (carrierOf (o .carrier) r) o))
+    (madeOf r (o .rows .bit) (steals r) (not (eqb (r .type) 1)) (dueOn (carrierOf (o .carrier) r) o))
 
 -- "Unitdata request: BL-UDATA, its FCS flag again not set, its own link id."
 unfoldable pub afterUnitdata : Request → Own → Own
@@ -256,8 +142,8 @@ sentFirst o = submitted (resent o .state) (resent o .stays)
 unfoldable pub atTickEnd : Own → Done Own
 atTickEnd o =
     done
-    (keepingReceipts
-    (keepingDue (keepingUnacknowledged (keepingAcknowledged o (sentFirst o .stays)) []) [])
+    (withReceipts
+    (dueNow (unacknowledgedNow (acknowledgedNow o (sentFirst o .stays)) []) [])
     (sentFirst o .state))
     (resent o .out ++ (sentFirst o .out ++ (map replyTo (o .due) ++ map unacknowledged (o .unacknowledged))))
 
@@ -292,7 +178,7 @@ abbrev pub finished : Frame → Bool → Found Message → Own → Own
 finished f nr nothing o = o
 finished f nr (first m ms) o =
     cond (finishes f nr m)
-    (keepingReceipts (keepingAcknowledged o ms) (mark Marks.acknowledged (m .sent .receipt) (o .receipts)))
+    (withReceipts (acknowledgedNow o ms) (mark Marks.acknowledged (m .sent .receipt) (o .receipts)))
     o
 
 -- What N(R) does.
@@ -306,7 +192,7 @@ afterReceived f (refused n) o = refused n
 afterReceived f (accepted r) o =
     ask 14 (canFinish f (nrOf (r .header)) o)
     (accepted
-    (done (heard f (nrOf (r .header)) (keepingDue o (madeDue f (nsOf (r .header)) o))) (upward f (r .header) (r .sdu))))
+    (done (heard f (nrOf (r .header)) (dueNow o (madeDue f (nsOf (r .header)) o))) (upward f (r .header) (r .sdu))))
 
 unfoldable pub afterFrame : Frame → Own → Outcome (Done Own)
 afterFrame f o = afterReceived f (received (f .pdu)) o
@@ -321,7 +207,7 @@ stillWaits i o =
 unfoldable pub afterReport : ℕ → ℕ → Own → Outcome (Done Own)
 afterReport i how o =
     ask 15 (taken? (is Pending) (placeAt (o .receipts) i) && not (stillWaits i o))
-    (accepted (done (keepingReceipts o (mark (markOf how) i (o .receipts))) []))
+    (accepted (done (withReceipts o (mark (markOf how) i (o .receipts))) []))
 
 -- "16. Release: is the receipt taken, its message no longer held, and final?" "A release frees it."
 unfoldable pub stillHeld : ℕ → Own → Bool
@@ -332,7 +218,7 @@ stillHeld i o =
 unfoldable pub afterRelease : ℕ → Own → Outcome (Done Own)
 afterRelease i o =
     ask 16 (taken? final (placeAt (o .receipts) i) && not (stillHeld i o))
-    (accepted (done (keepingReceipts o (set (o .receipts) i free)) []))
+    (accepted (done (withReceipts o (set (o .receipts) i free)) []))
 
 -- A request, and a call by receipt.
 abbrev pub afterRequest : Service → Request → Own → Own

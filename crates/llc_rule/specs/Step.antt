@@ -22,7 +22,8 @@ use Rattle.llc_rule.specs.Records.{Record, acknowledged, unacknowledged,
 use Rattle.llc_rule.specs.Upward.{upward}
 use Rattle.llc_rule.specs.Messages.{Message, waiting, submittedAfter, doneAt, hasTime, overdue, Due, slotBefore, replyTo, Place, free, placeAt, isFree, pending, taken?, mark, markOf, reported, carrierOf, sentOf}
 use Rattle.llc_rule.specs.Done.{Done, done}
-use Rattle.llc_rule.specs.Link.{Link, startedWith, withTime, acknowledgedNow, unacknowledgedNow, dueNow, withReceipts, withRows, bitOf, withBit, isRowOf}
+use Rattle.llc_rule.specs.Keeps.{withBit, withTime, acknowledgedNow, unacknowledgedNow, dueNow, withReceipts, withRows}
+use Rattle.llc_rule.specs.Link.{Link, startedWith, bitOf, numbersOf, withNumbers, isRowOf}
 
 -- Requests ----------------------------------------------------------------------------------------------------------------
 
@@ -66,7 +67,7 @@ withAcknowledged r l =
     (withReceipts
     (dueNow (acknowledgedNow l (l .acknowledged ++ (m ∷ []))) (others (dueFor r l) (l .due)))
     (set (l .receipts) (r .receipt) (pending true)))
-    (withBit (r .ssi) (not ns) (l .rows))
+    (withNumbers (r .ssi) (withBit (numbersOf (r .ssi) (l .rows)) (not ns)) (l .rows))
 
 -- An unacknowledged message put last, with a link id and behind a header, and the due acknowledgements that are left.
 unfoldable pub withUnacknowledged : Request → ℕ → Pdu → List Due → Link → Link

@@ -12,7 +12,7 @@ use Rattle.tx_receipt.specs.Marks.{Mark}
 use Rattle.tx_receipt.specs.declared.TxReceipt.{TxReceipt}
 use Rattle.tx_receipt.proofs.Laws.{numbered-number, made-by-number}
 use Rattle.llc_rule.specs.Messages.{free, taken, pending, taken?, marked, mark, placeAt}
-use Rattle.llc_rule.specs.Link.{withReceipts}
+use Rattle.llc_rule.specs.Keeps.{withReceipts}
 use Rattle.llc_state.specs.Receipts.{receiptOf, withPlaces, takenBy, withReceipt, markedPlace, pendingPlace, placeOf, mark as markPlaces, markReceipt, takeReceipt, freeReceipt}
 use Rattle.llc_state.specs.States.{noReceipt}
 use Rattle.llc_state.specs.View.{placeIn, linkIn}

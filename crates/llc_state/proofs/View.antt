@@ -8,7 +8,8 @@ use Rattle.lists.specs.Lists.{all}
 use Rattle.tdma_time.specs.Slots.{valid}
 use Rattle.tdma_time.specs.declared.TdmaTime.{TdmaTime}
 use Rattle.llc_rule.specs.Messages.{noReceipts}
-use Rattle.llc_rule.specs.Link.{new, startedWith, withTime}
+use Rattle.llc_rule.specs.Keeps.{withTime}
+use Rattle.llc_rule.specs.Link.{new, startedWith}
 use Rattle.llc_state.specs.Ranges.{placeInRange, headInRange, stateInRange}
 use Rattle.llc_state.specs.States.{emptyState, newState, startedState, atTime}
 use Rattle.llc_state.specs.View.{placeIn, linkIn}

@@ -8,7 +8,8 @@ use Rattle.bits.specs.Bits.{part}
 use Rattle.llc_rule.specs.Limits.{placeBytes}
 use Rattle.llc_rule.specs.Records.{Sent}
 use Rattle.llc_rule.specs.Messages.{Message, Due, Place, free, taken}
-use Rattle.llc_rule.specs.Link.{Link, Row}
+use Rattle.llc_rule.specs.Keeps.{Numbers}
+use Rattle.llc_rule.specs.Link.{Link, Row, rowWith}
 use Rattle.llc_state.specs.Receipts.{receiptOf}
 use Rattle.llc_state.specs.declared.TmaUnitdataReq.{TmaUnitdataReq}
 use Rattle.llc_state.specs.declared.Progress.{Progress}
@@ -64,12 +65,15 @@ messageIn store e = messageWith (sentIn store e) (e .progress)
 unfoldable pub dueIn : ScheduledOutAck → Due
 dueIn a = record { ssi = a .ssi; type = a .«ssi_type»; carrier = a .«carrier_num»; nr = a .nr; slot = a .ts }
 
--- The place of a receipt, and an address row.
+-- The place of a receipt; the numbers of an address, and its row.
 unfoldable pub placeIn : ReceiptPlace → Place
 placeIn p = cond (p .taken) (taken (receiptOf p)) free
 
+abbrev pub numbersIn : LinkSendSeq → Numbers
+numbersIn r = record { bit = r .vs }
+
 unfoldable pub rowIn : LinkSendSeq → Row
-rowIn r = record { ssi = r .ssi; bit = r .vs }
+rowIn r = rowWith (r .ssi) (numbersIn r)
 
 -- The link.
 unfoldable pub linkIn : State → List ℕ → Link

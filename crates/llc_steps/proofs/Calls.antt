@@ -21,6 +21,7 @@ use Rattle.llc_rule.specs.Upward.{upward}
 use Rattle.llc_rule.specs.Messages as Rule
 use Rattle.llc_rule.specs.Messages.{Message, markOf}
 use Rattle.llc_rule.specs.Done.{Done, done}
+use Rattle.llc_rule.specs.Keeps as Keeps
 use Rattle.llc_rule.specs.Link as Link
 use Rattle.llc_rule.specs.Step as Step
 use Rattle.llc_state.specs.View.{sentIn, messageIn, dueIn, linkIn}
@@ -109,8 +110,8 @@ module _ (f : Frame) (s : State) (store : List ℕ) where
 
   due-in :
       (x : Option Bool)
-      → linkIn (withAcks s (scheduled f x s)) store ≡ Link.dueNow (linkIn s store) (Step.withDue f x (linkIn s store))
-  due-in x = acks-in s store (scheduled f x s) ∙ ap (Link.dueNow (linkIn s store)) (scheduled-in x)
+      → linkIn (withAcks s (scheduled f x s)) store ≡ Keeps.dueNow (linkIn s store) (Step.withDue f x (linkIn s store))
+  due-in x = acks-in s store (scheduled f x s) ∙ ap (Keeps.dueNow (linkIn s store)) (scheduled-in x)
 
   answered-by-in :
       (nr : Bool) (x : Found Entry)
@@ -123,7 +124,7 @@ module _ (f : Frame) (s : State) (store : List ℕ) where
       ∙ (λ i.
       cond (fits-in nr e i)
       ((mark-receipt-in (withMessages s es) store (e .sent .receipt) Marks.acknowledged
-      ∙ ap (λ (l : Link.Link). Link.withReceipts l (Rule.mark Marks.acknowledged (e .sent .receipt) (l .receipts))) (messages-in s store es)) i)
+      ∙ ap (λ (l : Link.Link). Keeps.withReceipts l (Rule.mark Marks.acknowledged (e .sent .receipt) (l .receipts))) (messages-in s store es)) i)
       (messages-in s store (e ∷ es) i))
 
   answered-in : (x : Option Bool) → linkIn (answered f x s) store ≡ Step.answered f x (linkIn s store)

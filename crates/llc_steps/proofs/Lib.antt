@@ -3,6 +3,7 @@ pub mod TickEnd
 pub mod Calls
 pub mod NotStarted
 pub mod Places
+pub mod Rows
 pub mod Requests
 pub mod Steps
 pub mod Ready

@@ -11,7 +11,6 @@ use lib.Seq.{take-append-seam}
 use Rattle.lists.specs.Lists.{Found, nothing, first, others, All}
 use Rattle.lists.proofs.Lists.{all-map}
 use Rattle.lists.proofs.Choices.{by-test}
-use Rattle.lists.proofs.Tables.{first-viewed, filed-viewed}
 use Rattle.questions.specs.Outcome.{accepted}
 use Rattle.bits.specs.Bits.{splice}
 use Rattle.llc_pdus.specs.Writes.{longest, frameBits}
@@ -25,6 +24,8 @@ use Rattle.llc_rule.specs.Records.{Sent}
 use Rattle.llc_rule.specs.Messages as Rule
 use Rattle.llc_rule.specs.Messages.{Message, Due, sentOf}
 use Rattle.llc_rule.specs.Done.{done}
+use Rattle.llc_rule.specs.Keeps as Keeps
+use Rattle.llc_rule.specs.Keeps.{Numbers}
 use Rattle.llc_rule.specs.Link as Link
 use Rattle.llc_rule.specs.Step as Step
 use Rattle.llc_rule.specs.Step.{onAcknowledgedPath}
@@ -40,20 +41,12 @@ use Rattle.llc_state.proofs.Maps.{map-append, mapFound, find-map, any-map, othe
 use Rattle.llc_state.proofs.Places.{place-in, take-receipt-in}
 use Rattle.llc_steps.specs.States.{messagesOf, udataOf, acksOf, rowsOf, withMessages, withUdata, withAcks}
 use Rattle.llc_steps.specs.Places.{freePlace}
-use Rattle.llc_steps.specs.Calls.{entryOf, carrierFor, ackFor, seqOf, withSeq, dataPdu, withAcknowledged, withUnacknowledged, withStolen, receiptFree, rowFor, onData, onUnitdata, onRequest, rowOf, newSeq}
+use Rattle.llc_steps.specs.Calls.{entryOf, carrierFor, ackFor, seqOf, withSeq, nextSeq, dataPdu, withAcknowledged, withUnacknowledged, withStolen, receiptFree, rowFor, onData, onUnitdata, onRequest}
 use Rattle.llc_steps.specs.Holds.{keptIn, Stored, Ready}
 use Rattle.llc_steps.proofs.Setters.{messages-in, udata-in, acks-in, rows-in}
 use Rattle.llc_steps.proofs.Places.{free-place, part-there, frame-elsewhere}
+use Rattle.llc_steps.proofs.Rows.{seq-in, with-seq-in, row-in}
 use Rattle.llc_steps.proofs.Calls.{kept-ask}
-
--- Rows.
-seq-in : (a : ℕ) (rs : List LinkSendSeq) → Link.bitOf a (map rowIn rs) ≡ seqOf a rs
-unfolding rowIn
-seq-in a rs = ap (λ (w : Link.Row). w .bit) (first-viewed rowIn (rowOf a) (Link.isRowOf a) (λ r. refl) (newSeq a) rs)
-
-with-seq-in : (a : ℕ) (b : Bool) (rs : List LinkSendSeq) → map rowIn (withSeq a b rs) ≡ Link.withBit a b (map rowIn rs)
-unfolding rowIn
-with-seq-in a b rs = sym (filed-viewed rowIn (rowOf a) (Link.isRowOf a) (λ r. refl) (record { ssi = a; vs = b }) rs)
 
 -- Receipts.
 free-by : (p : ReceiptPlace) → not (p .taken) ≡ Rule.isFree (placeIn p)
@@ -113,7 +106,7 @@ module _ (r : Request) (s : State) (store : List ℕ) (short : length (r .block)
   link-same : (pdu after : List ℕ) → Placed s store pdu after → linkIn s after ≡ linkIn s store
   unfolding linkIn
   link-same pdu after ok =
-      ap₂ (λ (ms : List Message) (us : List Sent). Link.unacknowledgedNow (Link.acknowledgedNow (linkIn s store) ms) us)
+      ap₂ (λ (ms : List Message) (us : List Sent). Keeps.unacknowledgedNow (Keeps.acknowledgedNow (linkIn s store) ms) us)
       (messages-same pdu after ok)
       (udata-same pdu after ok)
 
@@ -125,17 +118,19 @@ module _ (r : Request) (s : State) (store : List ℕ) (short : length (r .block)
   new-message c k p ns after ok = ap (λ (x : Sent). messageWith x (newProgress ns)) (new-sent c k p ns after ok)
 
   with-acknowledged-in :
-      Placed s store (frameBits (dataPdu r (seqOf (r .ssi) (rowsOf s)) (ackFor r s)) (r .sdu)) (withAcknowledged r s store .store)
+      Placed s store (frameBits (dataPdu r (seqOf (r .ssi) (rowsOf s) .vs) (ackFor r s)) (r .sdu)) (withAcknowledged r s store .store)
       → linkIn (withAcknowledged r s store .state) (withAcknowledged r s store .store) ≡ Step.withAcknowledged r (linkIn s store)
   unfolding withAcknowledged Step.withAcknowledged linkIn
   with-acknowledged-in ok =
-      let ns : Bool = seqOf (r .ssi) (rowsOf s) in
+      let ns : Bool = seqOf (r .ssi) (rowsOf s) .vs in
+      let w : LinkSendSeq = nextSeq (r .ssi) (seqOf (r .ssi) (rowsOf s)) in
       let c : ℕ = carrierFor r s in
       let p : Pdu = dataPdu r ns (ackFor r s) in
       let pdu : List ℕ = frameBits p (r .sdu) in
       let after : List ℕ = splice store (placeBit (freePlace s)) pdu in
       let e : Entry = entryOf r c 0 (freePlace s) (length pdu) ns in
-      let bit : ns ≡ Link.bitOf (r .ssi) (map rowIn (rowsOf s)) = sym (seq-in (r .ssi) (rowsOf s)) in
+      let numbers = sym (seq-in (r .ssi) (rowsOf s)) in
+      let bit : ns ≡ Link.bitOf (r .ssi) (map rowIn (rowsOf s)) = ap (λ (n : Numbers). n .bit) numbers in
       let pdus : p ≡ Step.dataPdu r (Link.bitOf (r .ssi) (map rowIn (rowsOf s))) (Step.dueFor r (linkIn s store)) =
       sym (data-pdu-in ns (ackFor r s)) ∙ ap₂ (Step.dataPdu r) bit (sym ack-for-in)
       in
@@ -148,17 +143,18 @@ module _ (r : Request) (s : State) (store : List ℕ) (short : length (r .block)
       sym (others-map dueIn (ackFor r s) (acksOf s)) ∙ ap (λ (x : Found Due). others x (map dueIn (acksOf s))) (sym ack-for-in)
       in
       let rows =
-      with-seq-in (r .ssi) (not ns) (rowsOf s) ∙ ap (λ (b : Bool). Link.withBit (r .ssi) (not b) (map rowIn (rowsOf s))) bit
+      with-seq-in (r .ssi) w (rowsOf s) refl
+      ∙ ap (λ (n : Numbers). Link.withNumbers (r .ssi) (Keeps.withBit n (not (n .bit))) (map rowIn (rowsOf s))) numbers
       in
       let s₁ : State = withMessages s (messagesOf s ++ (e ∷ [])) in
       let s₂ : State = withAcks s₁ (others (ackFor r s) (acksOf s)) in
       let s₃ : State = takeReceipt s₂ (r .receipt) true in
-      rows-in s₃ after (withSeq (r .ssi) (not ns) (rowsOf s))
-      ∙ ap₂ Link.withRows
+      rows-in s₃ after (withSeq (r .ssi) w (rowsOf s))
+      ∙ ap₂ Keeps.withRows
       (take-receipt-in s₂ after (r .receipt) true
-      ∙ ap (λ (l : Link.Link). Link.withReceipts l (set (l .receipts) (r .receipt) (Rule.pending true)))
+      ∙ ap (λ (l : Link.Link). Keeps.withReceipts l (set (l .receipts) (r .receipt) (Rule.pending true)))
       (acks-in s₁ after (others (ackFor r s) (acksOf s))
-      ∙ ap₂ Link.dueNow (messages-in s after (messagesOf s ++ (e ∷ [])) ∙ ap₂ Link.acknowledgedNow (link-same pdu after ok) messages) dues))
+      ∙ ap₂ Keeps.dueNow (messages-in s after (messagesOf s ++ (e ∷ [])) ∙ ap₂ Keeps.acknowledgedNow (link-same pdu after ok) messages) dues))
       rows
 
   with-unacknowledged-in :
@@ -179,10 +175,10 @@ module _ (r : Request) (s : State) (store : List ℕ) (short : length (r .block)
       let s₁ : State = withUdata s (udataOf s ++ (e ∷ [])) in
       let s₂ : State = withAcks s₁ ds in
       take-receipt-in s₂ after (r .receipt) false
-      ∙ ap (λ (l : Link.Link). Link.withReceipts l (set (l .receipts) (r .receipt) (Rule.pending false)))
+      ∙ ap (λ (l : Link.Link). Keeps.withReceipts l (set (l .receipts) (r .receipt) (Rule.pending false)))
       (acks-in s₁ after ds
-      ∙ ap (λ (l : Link.Link). Link.dueNow l (map dueIn ds))
-      (udata-in s after (udataOf s ++ (e ∷ [])) ∙ ap₂ Link.unacknowledgedNow (link-same pdu after ok) sents))
+      ∙ ap (λ (l : Link.Link). Keeps.dueNow l (map dueIn ds))
+      (udata-in s after (udataOf s ++ (e ∷ [])) ∙ ap₂ Keeps.unacknowledgedNow (link-same pdu after ok) sents))
 
 all-both : {A : Type 0} (P Q R : A → Type 0) (l : List A) → ((x : A) → P x → Q x → R x) → All P l → All Q l → All R l
 all-both P Q R [] f p q = tt
@@ -217,13 +213,6 @@ module _ (r : Request) (s : State) (store : List ℕ) (ok : Ready s store) (bloc
       let p : ReceiptPlace = placeOf (s .receipts) (r .receipt) in
       free-by p ∙ ap Rule.isFree (sym (place-in (s .receipts) (r .receipt)))
 
-  row-in : rowFor (r .ssi) s ≡ Step.rowFor (r .ssi) (linkIn s store)
-  unfolding rowFor Step.rowFor linkIn rowIn
-  row-in =
-      ap₂ _||_
-      (sym (any-map rowIn (λ (w : Link.Row). eqb (w .ssi) (r .ssi)) (rowsOf s)))
-      (ap (λ (n : ℕ). ltb n 256) (sym (length-map (rowsOf s) rowIn ∙ ok .counted .rows)))
-
   messages-room : ltb (s .«n_messages») 64 ≡ Step.acknowledgedPlace (linkIn s store)
   unfolding linkIn
   messages-room = ap (λ (n : ℕ). ltb n 64) (sym (length-map (messagesOf s) (messageIn store) ∙ ok .counted .messages))
@@ -248,7 +237,7 @@ module _ (r : Request) (s : State) (store : List ℕ) (ok : Ready s store) (bloc
       → keptIn (accepted (withAcknowledged r s store)) ≡ accepted (done (Step.withAcknowledged r (linkIn s store)) [])
   unfolding keptIn withAcknowledged
   acknowledged-kept room =
-      let p : Pdu = dataPdu r (seqOf (r .ssi) (rowsOf s)) (ackFor r s) in
+      let p : Pdu = dataPdu r (seqOf (r .ssi) (rowsOf s) .vs) (ackFor r s) in
       ap (λ (l : Link.Link). accepted (done l []))
       (with-acknowledged-in r s store block
       (placed s store (frameBits p (r .sdu)) ok (omega (arith, ltb-true (s .«n_messages») 64 room, ok .fewToo)) (pdu-short p)))
@@ -285,7 +274,7 @@ module _ (r : Request) (s : State) (store : List ℕ) (ok : Ready s store) (bloc
       kept-ask 6 _ receipt-in
       (λ t.
       by-test (onAcknowledgedPath r)
-      (λ p. rw p (kept-ask 7 _ row-in (λ q. kept-ask 8 _ messages-room (λ u. acknowledged-kept u))))
+      (λ p. rw p (kept-ask 7 _ (row-in (r .ssi) s store (ok .counted)) (λ q. kept-ask 8 _ messages-room (λ u. acknowledged-kept u))))
       (λ p. rw p (kept-ask 8 _ udata-room (λ u. off-path u))))
 
   pub request-in : (v : Service) → keptIn (onRequest v r s store) ≡ Step.onRequest v r (linkIn s store)

@@ -10,7 +10,6 @@ use lib.ListN.{length}
 use Rattle.lists.specs.Lists.{any, Found, nothing, first, others}
 use Rattle.lists.proofs.Lists.{find-by}
 use Rattle.lists.proofs.Choices.{by-test, either}
-use Rattle.lists.proofs.Tables.{length-filed, all-filed}
 use Rattle.questions.specs.Outcome.{accepted}
 use Rattle.questions.proofs.Asked.{by-question}
 use Rattle.bits.specs.Bits.{splice}
@@ -33,10 +32,10 @@ use Rattle.llc_state.specs.declared.State.{State}
 use Rattle.llc_state.proofs.InRange.{there-holds, new-fits, message-holds, udata-holds}
 use Rattle.llc_steps.specs.States.{messagesOf, udataOf, acksOf, rowsOf, Kept}
 use Rattle.llc_steps.specs.Places.{freePlace}
-use Rattle.llc_steps.specs.Calls.{entryOf, carrierFor, ackFor, seqOf, withSeq, dataPdu, withAcknowledged, withUnacknowledged, withStolen, receiptFree, rowFor, onData, onUnitdata, onRequest, rowOf}
+use Rattle.llc_steps.specs.Calls.{entryOf, carrierFor, ackFor, seqOf, nextSeq, dataPdu, withAcknowledged, withUnacknowledged, withStolen, receiptFree, rowFor, onData, onUnitdata, onRequest}
 use Rattle.llc_steps.specs.Sane.{Sane, SaneAfter}
 use Rattle.llc_steps.proofs.Places.{free-place}
-use Rattle.llc_steps.proofs.SaneSetters.{places-full, pending-full, Used, one-more, others-used, sane-ready, messages-used, udata-used, acks-used, rows-used, store-sane, messages-sane, udata-sane, acks-sane, places-sane, rows-sane}
+use Rattle.llc_steps.proofs.SaneSetters.{places-full, pending-full, Used, one-more, others-used, sane-ready, messages-used, udata-used, acks-used, row-written, store-sane, messages-sane, udata-sane, acks-sane, places-sane, rows-sane}
 
 module _ (r : Request) (s : State) (store : List ℕ) (ok : Sane s store) (ssi : r .ssi < 16777216) (h : requestInRange r ≡ true) where
   -- The new entry is in range, and its frame lies within the store.
@@ -90,34 +89,18 @@ module _ (r : Request) (s : State) (store : List ℕ) (ok : Sane s store) (ssi :
   store-long : (p : Pdu) → freePlace s < storePlaces → length (splice store (placeBit (freePlace s)) (frameBits p (r .sdu))) ≡ length store
   store-long p inside = length-splice store (placeBit (freePlace s)) (frameBits p (r .sdu)) (omega (arith, ok .long, frame-short p (r .sdu) sdu-short))
 
-  -- The acknowledgements due less the one that is used up, and the rows with the one that flips.
+  -- The acknowledgements due less the one that is used up.
   acks-but : Used ackInRange 64 (others (ackFor r s) (acksOf s))
   unfolding ackFor
   acks-but = others-used ackInRange 64 _ (acksOf s) (ackFor r s) (find-by _ (acksOf s)) (acks-used s store ok)
 
-  rows-then : (b : Bool) → rowFor (r .ssi) s ≡ true → Used rowInRange 256 (withSeq (r .ssi) b (rowsOf s))
-  unfolding rowFor rowInRange
-  rows-then b row =
-      let w = rows-used s store ok in
-      let n = sane-ready s store ok .counted in
-      let more = length-filed (rowOf (r .ssi)) (record { ssi = r .ssi; vs = b }) (rowsOf s) in
-      record {
-        few =
-            by-test (any (rowOf (r .ssi)) (rowsOf s))
-            (λ t. omega (arith, w .few, rw t at more))
-            (λ f. omega (arith, ltb-true (s .«n_rows») 256 (rw f at row), rw f at more, n .rows));
-        each =
-            all-filed (λ (x : LinkSendSeq). rowInRange x ≡ true) (rowOf (r .ssi)) (record { ssi = r .ssi; vs = b }) (rowsOf s)
-            (lt-ltb (r .ssi) 16777216 ssi) (w .each);
-      }
-
   -- A message put last, acknowledged or not.
   acknowledged-sane : rowFor (r .ssi) s ≡ true → ltb (s .«n_messages») 64 ≡ true → SaneAfter (accepted (withAcknowledged r s store))
-  unfolding withAcknowledged
+  unfolding withAcknowledged rowInRange
   acknowledged-sane row room =
       let q = sane-ready s store ok in
       let less : s .«n_messages» < 64 = ltb-true (s .«n_messages») 64 room in
-      let ns : Bool = seqOf (r .ssi) (rowsOf s) in
+      let ns : Bool = seqOf (r .ssi) (rowsOf s) .vs in
       let p : Pdu = dataPdu r ns (ackFor r s) in
       let inside = place-inside (omega (arith, less, q .fewToo)) in
       let messages =
@@ -129,7 +112,7 @@ module _ (r : Request) (s : State) (store : List ℕ) (ok : Sane s store) (ssi :
       (places-sane
       (acks-sane (messages-sane (store-sane ok (store-long p inside ∙ ok .long)) messages) acks-but)
       (pending-full true (r .receipt) (s .receipts) (places-full s store ok)))
-      (rows-then (not ns) row)
+      (row-written s store ok (r .ssi) (nextSeq (r .ssi) (seqOf (r .ssi) (rowsOf s))) row (lt-ltb (r .ssi) 16777216 ssi))
 
   unacknowledged-sane :
       (k : ℕ) (p : Pdu) (ds : List ScheduledOutAck)

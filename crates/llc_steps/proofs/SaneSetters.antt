@@ -4,15 +4,17 @@ use native.Mathlib.Omega.{arith}
 use mathlib.Core.Path.{_≡_, _∙_, refl, ap}
 use mathlib.Core.Bool.{Bool, true}
 use mathlib.Core.List.{List, [], _∷_, _++_}
+use borrow.Author.Tests.{ltb-true}
 use lib.Dec.{ltb}
 use lib.ListN.{length, set, take, length-append, length-set}
 use lib.Seq.{length-take-le}
-use Rattle.lists.specs.Lists.{all, Found, nothing, first, others, All}
+use Rattle.lists.specs.Lists.{any, all, Found, nothing, first, others, All}
 use Rattle.lists.specs.Arrays.{laid}
 use Rattle.lists.proofs.Lists.{all-append, Split, FoundBy, all-middle}
 use Rattle.lists.proofs.Arrays.{length-laid, take-laid}
 use Rattle.lists.proofs.Choices.{by-test}
 use Rattle.lists.proofs.Tests.{all-each, each-all, all-set}
+use Rattle.lists.proofs.Tables.{length-filed, all-filed}
 use Rattle.tx_receipt.specs.States.{number}
 use Rattle.tx_receipt.specs.Marks.{Mark, marked}
 use Rattle.tx_receipt.specs.declared.TxState.{TxState}
@@ -28,6 +30,7 @@ use Rattle.llc_state.specs.declared.LinkSendSeq.{LinkSendSeq}
 use Rattle.llc_state.specs.declared.State.{State}
 use Rattle.llc_state.proofs.InRange.{range-tells, in-range}
 use Rattle.llc_steps.specs.States.{messagesOf, udataOf, acksOf, rowsOf, withMessages, withUdata, withAcks, withRows}
+use Rattle.llc_steps.specs.Calls.{rowOf, withSeq, rowFor}
 use Rattle.llc_steps.specs.Holds.{Ready}
 use Rattle.llc_steps.specs.Sane.{Sane}
 use Rattle.llc_steps.proofs.Ready.{ready}
@@ -153,6 +156,25 @@ module _ (s : State) (store : List ℕ) (ok : Sane s store) where
   rows-used =
       let r = range-tells s (ok .range) in
       used-first rowInRange 256 (s .«n_rows») (s .«link_send_seq») (ok .rows) (r .head .rows) (r .rows)
+
+  -- A row is written in the place of the address's row, or is one more.
+  pub row-written :
+      (a : ℕ) (w : LinkSendSeq)
+      → rowFor a s ≡ true
+      → rowInRange w ≡ true
+      → Used rowInRange 256 (withSeq a w (rowsOf s))
+  unfolding rowFor
+  row-written a w row fits =
+      let u = rows-used in
+      let n = sane-ready .counted in
+      let more = length-filed (rowOf a) w (rowsOf s) in
+      record {
+        few =
+            by-test (any (rowOf a) (rowsOf s))
+            (λ t. omega (arith, u .few, rw t at more))
+            (λ f. omega (arith, ltb-true (s .«n_rows») 256 (rw f at row), rw f at more, n .rows));
+        each = all-filed (λ (x : LinkSendSeq). rowInRange x ≡ true) (rowOf a) w (rowsOf s) fits (u .each);
+      }
 
   pub places-full : Full (s .receipts)
   places-full = record { long = ok .places; each = range-tells s (ok .range) .places }

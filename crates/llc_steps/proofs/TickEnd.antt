@@ -14,6 +14,7 @@ use Rattle.tx_receipt.specs.Marks as Marks
 use Rattle.llc_rule.specs.Records.{Record, acknowledged, unacknowledged}
 use Rattle.llc_rule.specs.Messages as Rule
 use Rattle.llc_rule.specs.Messages.{Message, Place, overdue, reported, replyTo}
+use Rattle.llc_rule.specs.Keeps as Keeps
 use Rattle.llc_rule.specs.Link as Link
 use Rattle.llc_rule.specs.Step as Step
 use Rattle.llc_state.specs.States.{noEntry}
@@ -180,10 +181,10 @@ module _ (store : List ℕ) where
   passed-in :
       (s : State) (ms : List Entry) (ps : List ReceiptPlace)
       → linkIn (withPlaces (withMessages s ms) ps) store
-      ≡ Link.withReceipts (Link.acknowledgedNow (linkIn s store) (map (messageIn store) ms)) (map placeIn ps)
+      ≡ Keeps.withReceipts (Keeps.acknowledgedNow (linkIn s store) (map (messageIn store) ms)) (map placeIn ps)
   passed-in s ms ps =
       places-in (withMessages s ms) store ps
-      ∙ ap (λ (l : Link.Link). Link.withReceipts l (map placeIn ps)) (messages-in s store ms)
+      ∙ ap (λ (l : Link.Link). Keeps.withReceipts l (map placeIn ps)) (messages-in s store ms)
 
   pub ticked-in : (s : State) → linkIn (ticked s) store ≡ Step.onTickEnd (linkIn s store) .state
   unfolding ticked Step.onTickEnd
@@ -193,15 +194,15 @@ module _ (store : List ℕ) where
       let s₂ : State = afterSendings s₁ in
       let f = firstSendings s₁ in
       udata-in (withAcks s₂ []) store []
-      ∙ ap (λ (l : Link.Link). Link.unacknowledgedNow l [])
+      ∙ ap (λ (l : Link.Link). Keeps.unacknowledgedNow l [])
       (acks-in s₂ store []
-      ∙ ap (λ (l : Link.Link). Link.dueNow l [])
+      ∙ ap (λ (l : Link.Link). Keeps.dueNow l [])
       (passed-in s₁ (f .stays) (f .state .receipts)
-      ∙ ap (λ (l : Link.Link). Link.withReceipts (Link.acknowledgedNow l (map (messageIn store) (f .stays))) (map placeIn (f .state .receipts)))
+      ∙ ap (λ (l : Link.Link). Keeps.withReceipts (Keeps.acknowledgedNow l (map (messageIn store) (f .stays))) (map placeIn (f .state .receipts)))
       (passed-in s (retransmissions s .stays) (retransmissions s .state))))
       ∙ ap
       (λ (x : Visit Step.Sending Message Record).
-      Link.withReceipts (Link.dueNow (Link.unacknowledgedNow (Link.acknowledgedNow (linkIn s store) (x .stays)) []) []) (x .state .receipts))
+      Keeps.withReceipts (Keeps.dueNow (Keeps.unacknowledgedNow (Keeps.acknowledgedNow (linkIn s store) (x .stays)) []) []) (x .state .receipts))
       (sym v)
 
   pub records-in : (s : State) → tickRecords s store ≡ Step.onTickEnd (linkIn s store) .records

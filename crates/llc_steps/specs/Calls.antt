@@ -74,12 +74,16 @@ rowOf ssi r = eqb (r .ssi) ssi
 abbrev pub newSeq : ℕ → LinkSendSeq
 newSeq ssi = record { ssi = ssi; vs = false }
 
--- get_next_send_seq: the bit of an SSI, and the rows with another.
-abbrev pub seqOf : ℕ → List LinkSendSeq → Bool
-seqOf a rs = firstOr (rowOf a) (newSeq a) rs .vs
+abbrev pub seqOf : ℕ → List LinkSendSeq → LinkSendSeq
+seqOf ssi rs = firstOr (rowOf ssi) (newSeq ssi) rs
 
-abbrev pub withSeq : ℕ → Bool → List LinkSendSeq → List LinkSendSeq
-withSeq a b rs = filed (rowOf a) (record { ssi = a; vs = b }) rs
+-- The rows with another for an SSI, behind the rest if it had none.
+abbrev pub withSeq : ℕ → LinkSendSeq → List LinkSendSeq → List LinkSendSeq
+withSeq ssi w rs = filed (rowOf ssi) w rs
+
+-- get_next_send_seq: the row of an SSI when its bit was taken.
+abbrev pub nextSeq : ℕ → LinkSendSeq → LinkSendSeq
+nextSeq ssi w = record { ssi = ssi; vs = not (w .vs) }
 
 abbrev pub dataPdu : Request → Bool → Found ScheduledOutAck → Pdu
 dataPdu r ns (Lists.first d ds) = BlAdata (wantsFcs r) (d .nr) ns
@@ -88,7 +92,8 @@ dataPdu r ns nothing = BlData (wantsFcs r) ns
 -- A message put last, its frame in the first free place of the store.
 unfoldable pub withAcknowledged : Request → State → List ℕ → Kept
 withAcknowledged r s b =
-    let ns = seqOf (r .ssi) (rowsOf s) in
+    let w = seqOf (r .ssi) (rowsOf s) in
+    let ns = w .vs in
     let pdu = frameBits (dataPdu r ns (ackFor r s)) (r .sdu) in
     kept
     (withRows
@@ -97,7 +102,7 @@ withAcknowledged r s b =
     (withMessages s (messagesOf s ++ (entryOf r (carrierFor r s) 0 (freePlace s) (length pdu) ns ∷ [])))
     (others (ackFor r s) (acksOf s)))
     (set (s .receipts) (r .receipt) (pendingPlace true)))
-    (withSeq (r .ssi) (not ns) (rowsOf s)))
+    (withSeq (r .ssi) (nextSeq (r .ssi) w) (rowsOf s)))
     (splice b (placeBit (freePlace s)) pdu)
     []
 

@@ -5,7 +5,8 @@ use mathlib.Core.Bool.{false, true}
 use mathlib.Core.List.{List, [], _∷_, _++_}
 use lib.ListN.{replicate}
 use Rattle.llc_rule.specs.Messages.{noReceipts}
-use Rattle.llc_rule.specs.Link.{Link, Row, new, startedWith, withRows}
+use Rattle.llc_rule.specs.Keeps.{noNumbers, withRows}
+use Rattle.llc_rule.specs.Link.{Link, Row, rowWith, new, startedWith}
 use Rattle.llc_rule.proofs.Runs.{Told, hex, _gets_, _with_, _and_, request, requests, agrees}
 
 -- Question 2: values that are too short and too long.
@@ -214,7 +215,7 @@ dues-agrees = refl
 -- The rows of the n addresses below n, and a started link with 254 rows.
 unfoldable pub earlier : ℕ → List Row
 earlier zero = []
-earlier (suc n) = record { ssi = n; bit = false } ∷ earlier n
+earlier (suc n) = rowWith n noNumbers ∷ earlier n
 
 unfoldable pub crowded : Link
 crowded = withRows (startedWith 0x05fa 4) (earlier 254)
