@@ -59,6 +59,12 @@ impl Traffic {
         heard.map(|m| (m.addr.ssi, m.ns)).take(EACH).collect()
     }
 
+    /// The N(S) of the next frame from an address: a repeat would go up on one side alone.
+    fn next_ns(&self, ssi: u32) -> u8 {
+        let last = self.oracle.link.as_ref().and_then(|started| started.repeats.last(ssi)).and_then(|heard| heard.ns);
+        last.map_or(0, |ns| ns ^ 1)
+    }
+
     /// One slot.
     fn slot(&mut self, slot: usize, held: usize, addresses: usize) {
         self.call(time(slot as i32));
@@ -69,7 +75,7 @@ impl Traffic {
             self.frames += 1;
             // One in four brings an SDU.
             let is_adata = self.frames % 4 == 0;
-            let adata = || frame(ssi, u32::from(nr) << 1, 6, 40, false);
+            let adata = || frame(ssi, u32::from(nr << 1 | self.next_ns(ssi)), 6, 40, false);
             self.call(if is_adata { adata() } else { ack(ssi, nr) });
         }
         for receipt in 0..RECEIPTS as u8 {

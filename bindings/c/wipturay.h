@@ -83,10 +83,12 @@ struct wipturay_receipt_place {
     uint8_t state; /**< 0 Pending, 1 Discarded, 2 Transmitted, 3 Lost, 4 Acknowledged. */
 };
 
-/** The send sequence variable of an SSI. */
+/** The row of an SSI: its send sequence variable, and the last N(S) that was accepted from it. */
 struct wipturay_link_send_seq {
     uint32_t ssi;
-    bool vs;
+    bool vs;          /**< The N(S) of the next acknowledged message to it. */
+    bool has_last_ns; /**< Was a frame with an N(S) accepted from it? */
+    bool last_ns;     /**< The N(S) of the last one, if there was one: a frame with the same is a repeat, and does not go up. */
 };
 
 /** The link. Of each array so many elements count as its number says; of the receipts those that are taken. */

@@ -1,5 +1,5 @@
-//! What the link holds: messages, and acknowledgements that are due.
-use crate::sys::{Entry, ScheduledOutAck};
+//! What the link holds: messages, acknowledgements that are due, and address rows.
+use crate::sys::{Entry, LinkSendSeq, ScheduledOutAck};
 use crate::{TdmaTime, TetraAddress};
 
 /// A message that the link holds. Its block stays in the link, until the next call.
@@ -102,6 +102,28 @@ impl AckDue {
             carrier_num: ack.carrier_num,
             nr: ack.nr,
             ts: ack.ts,
+        }
+    }
+}
+
+/// What the link keeps of an SSI, from its first acknowledged message or frame with an N(S) to the next start.
+#[derive(Clone, Copy, Debug, PartialEq, Eq)]
+pub struct AddressRow {
+    /// The SSI.
+    pub ssi: u32,
+    /// The N(S) of the next acknowledged message to it.
+    pub vs: bool,
+    /// The last N(S) that was accepted from it, if there was one. A frame with the same N(S) is a repeat.
+    pub last_ns: Option<bool>,
+}
+
+impl AddressRow {
+    /// The row of an entry of the engine's state.
+    pub(crate) fn from_raw(row: &LinkSendSeq) -> AddressRow {
+        AddressRow {
+            ssi: row.ssi,
+            vs: row.vs,
+            last_ns: row.has_last_ns.then_some(row.last_ns),
         }
     }
 }

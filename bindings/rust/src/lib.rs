@@ -109,7 +109,7 @@ pub use bits::Bits;
 pub use block::Block;
 pub use does_not_fit::DoesNotFit;
 pub use frame::Frame;
-pub use held::{AckDue, AcknowledgedMessage, Message, UnderWay};
+pub use held::{AckDue, AcknowledgedMessage, AddressRow, Message, UnderWay};
 pub use link::Link;
 pub use receipt::{Receipt, Report, TxState};
 pub use record::{Kind, Record, Records};

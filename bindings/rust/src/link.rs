@@ -1,7 +1,9 @@
 //! The link.
 use crate::call::Call;
 use crate::engine::Engine;
-use crate::{AckDue, AcknowledgedMessage, Frame, Message, Receipt, Records, Refused, Report, Request, TdmaTime, TxState};
+use crate::{
+    AckDue, AcknowledgedMessage, AddressRow, Frame, Message, Receipt, Records, Refused, Report, Request, TdmaTime, TxState,
+};
 use std::fmt;
 
 /// The basic link of a base station.
@@ -72,7 +74,8 @@ impl Link {
         self.make(0x25, |call| request.put(call))
     }
 
-    /// Takes a frame that came in: what goes up comes out as a record.
+    /// Takes a frame that came in: what goes up comes out as a record. Of a repeat, whose N(S) is the last one accepted from its
+    /// SSI, nothing goes up; it is acknowledged.
     pub fn frame(&mut self, frame: &Frame<'_>) -> Result<Records<'_>, Refused> {
         self.make(0x26, |call| frame.put(call))
     }
@@ -155,9 +158,15 @@ impl Link {
         state.scheduled_out_acks[..state.n_acks].iter().map(AckDue::from_raw)
     }
 
-    /// How many SSIs have a send sequence variable V(S); at most 256 until the next start.
+    /// How many SSIs have a row; at most 256 until the next start.
     pub fn link_send_seqs(&self) -> usize {
         self.memory.engine.state().n_rows
+    }
+
+    /// The address rows.
+    pub fn address_rows(&self) -> impl Iterator<Item = AddressRow> {
+        let state = self.memory.engine.state();
+        state.link_send_seq[..state.n_rows].iter().map(AddressRow::from_raw)
     }
 }
 

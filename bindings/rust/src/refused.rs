@@ -17,7 +17,7 @@ impl Refused {
         self.number
     }
 
-    /// That question, in document 01's words.
+    /// That question, in document 01's words, as the requests in docs/changes change them.
     pub fn question(self) -> &'static str {
         match self.number {
             1 => {
@@ -32,7 +32,7 @@ impl Refused {
                  mask under 16 and 0 without flag 4, carrier 0 if not given, block, SDU up to 2,595 bits, frame up to 2,633?"
             }
             6 => "Request: is its receipt free?",
-            7 => "Acknowledged path: has its SSI a row, or is a row free?",
+            7 => "Acknowledged path, or frame with N(S): has its SSI a row, or is a row free?",
             8 => "Is there a place in its queue?",
             9 => "Frame: four bits?",
             10 => "Frame: type 0 to 7?",

@@ -88,13 +88,15 @@ pub struct ReceiptPlace {
     pub state: u8,
 }
 
-/// The send sequence variable of an SSI.
+/// The row of an SSI: its send sequence variable, and the last N(S) that was accepted from it.
 // crates/llc_state/src/lib.rt, LinkSendSeq
 #[repr(C)]
 #[derive(Clone, Copy, Debug, PartialEq)]
 pub struct LinkSendSeq {
     pub ssi: u32,
     pub vs: bool,
+    pub has_last_ns: bool,
+    pub last_ns: bool,
 }
 
 /// The link.

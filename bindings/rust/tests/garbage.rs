@@ -1,5 +1,5 @@
 //! Any bytes get one answer, and a refused call leaves the link as it was.
-use wipturay::{Bits, Frame, Link, Receipt, SsiType, TdmaTime, TetraAddress};
+use wipturay::{AddressRow, Bits, Frame, Link, Receipt, SsiType, TdmaTime, TetraAddress};
 
 /// Numbers that look random (xorshift).
 struct Random(u64);
@@ -18,13 +18,13 @@ impl Random {
 }
 
 /// All that a link shows.
-fn shown(link: &Link) -> (String, u16, u16, usize, Vec<Option<Receipt>>) {
+fn shown(link: &Link) -> (String, u16, u16, Vec<AddressRow>, Vec<Option<Receipt>>) {
     let receipts = (0..128).map(|number| link.receipt(number)).collect();
     (
         format!("{link:?}"),
         link.main_carrier(),
         link.t251(),
-        link.link_send_seqs(),
+        link.address_rows().collect(),
         receipts,
     )
 }

@@ -1,8 +1,8 @@
-//! What a link shows of what it holds: every field of messages and of acknowledgements due, after calls whose values are all
+//! What a link shows of what it holds: every field of messages, acknowledgements due and rows, after calls whose values are all
 //! different; and a receipt is final and its message not held exactly where a release is accepted.
 use common::{hex, try_hex};
 use std::fs;
-use wipturay::{AckDue, AcknowledgedMessage, Link, Message, SsiType, TdmaTime, TetraAddress, UnderWay};
+use wipturay::{AckDue, AcknowledgedMessage, AddressRow, Link, Message, SsiType, TdmaTime, TetraAddress, UnderWay};
 
 mod common;
 
@@ -21,6 +21,7 @@ fn a_new_link_holds_nothing() {
     assert_eq!(link.messages().count(), 0);
     assert_eq!(link.udata_messages().count(), 0);
     assert_eq!(link.acks_due().count(), 0);
+    assert_eq!(link.address_rows().count(), 0);
 }
 
 #[test]
@@ -162,6 +163,46 @@ fn every_field_of_an_acknowledgement_due_is_shown() {
         },
     ];
     assert!(link.acks_due().eq(due));
+}
+
+#[test]
+fn every_field_of_a_row_is_shown() {
+    let mut link = Link::new();
+    accepted(&mut link, "21 0004 1234 0004");
+    let shown = |link: &Link| {
+        link.address_rows()
+            .map(|row| (row.ssi, row.vs, row.last_ns))
+            .collect::<Vec<_>>()
+    };
+
+    // A data request makes a row without a last N(S), a frame with N(S) 0 one with it.
+    accepted(
+        &mut link,
+        "24 0019 404142 01 01 4344 00000000 00000000 00000000 00 00 52 00 0000",
+    );
+    accepted(&mut link, "26 0012 0a0b0c 02 0d0e 00000000 00000000 00 0005 10");
+    let row = AddressRow {
+        ssi: 0x404142,
+        vs: true,
+        last_ns: None,
+    };
+    assert_eq!(link.address_rows().next(), Some(row));
+    assert_eq!(shown(&link), [(0x404142, true, None), (0x0a0b0c, false, Some(false))]);
+
+    // Each gets what it has not; BL-UDATA and BL-ACK change no row and make none.
+    accepted(
+        &mut link,
+        "24 0019 0a0b0c 01 01 4344 00000000 00000000 00000000 00 00 53 00 0000",
+    );
+    accepted(&mut link, "26 0012 404142 01 0d0e 00000000 00000000 00 0006 04");
+    accepted(&mut link, "26 0012 0a0b0c 01 0d0e 00000000 00000000 00 0004 20");
+    accepted(&mut link, "26 0012 1a1b1c 01 0d0e 00000000 00000000 00 0005 38");
+    assert_eq!(shown(&link), [(0x404142, true, Some(true)), (0x0a0b0c, true, Some(false))]);
+    assert_eq!(link.link_send_seqs(), 2);
+
+    // A start ends them.
+    accepted(&mut link, "21 0004 1234 0004");
+    assert_eq!(shown(&link), []);
 }
 
 #[test]

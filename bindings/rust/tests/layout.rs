@@ -49,7 +49,7 @@ fn mirrored() -> Vec<(&'static str, Layout)> {
         Entry { sent, frame, progress }
         ScheduledOutAck { ssi, ssi_type, carrier_num, nr, ts }
         ReceiptPlace { taken, expects_ack, state }
-        LinkSendSeq { ssi, vs }
+        LinkSendSeq { ssi, vs, has_last_ns, last_ns }
         State {
             started, main_carrier, t251, dltime, n_messages, n_udata, n_acks, n_rows, outbound_messages, outbound_udata_messages,
             scheduled_out_acks, receipts, link_send_seq

@@ -217,9 +217,9 @@ fn check_bits_do_not_go_up() -> Result<(), Box<dyn Error>> {
     assert_eq!(up.bits, Some(bits(b"M31", 24)));
     assert_eq!(records.next(), None);
 
-    // Nothing but its check bits, which are zeros then.
+    // N(S) 1, and nothing but its check bits, which are zeros then.
     let up = link
-        .frame(&Frame::new(radio(1), CARRIER, bits(&[0b01010_000, 0, 0, 0, 0], 37)))?
+        .frame(&Frame::new(radio(1), CARRIER, bits(&[0b01011_000, 0, 0, 0, 0], 37)))?
         .next()
         .unwrap();
     assert_eq!((up.kind, up.fcs_flag, up.bits), (Kind::DataUp, Some(true), None));
@@ -227,6 +227,45 @@ fn check_bits_do_not_go_up() -> Result<(), Box<dyn Error>> {
     // BL-ACK with N(R) 0, and nothing but its check bits.
     let ack = Frame::new(radio(1), CARRIER, bits(&[0b01110_000, 0, 0, 0, 0], 37));
     assert_eq!(link.frame(&ack)?.next(), None);
+    Ok(())
+}
+
+#[test]
+fn a_repeat_is_acknowledged_and_does_not_go_up() -> Result<(), Box<dyn Error>> {
+    let mut link = started();
+    link.data_request(&Request::new(radio(1), 7, bits(&[], 0)))?;
+    link.tick_end()?;
+    link.report(7, Report::Transmitted)?;
+    link.tick_end()?;
+
+    // BL-DATA with N(S) 0 and the text M; then BL-ADATA with N(R) 0 and N(S) 0 on another carrier, which repeats it.
+    let data = Frame::new(radio(1), CARRIER, bits(&[0b00010_010, 0b01101_000], 13));
+    assert_eq!(link.frame(&data)?.next().unwrap().bits, Some(bits(b"M", 8)));
+    let adata = Frame::new(radio(1), CARRIER + 1, bits(&[0b000000_11], 8));
+    assert_eq!(link.frame(&adata)?.next(), None);
+    assert_eq!((link.scheduled_out_acks(), link.outbound_messages()), (2, 1));
+
+    // Its N(R) is obeyed: on the message's carrier it finishes that.
+    let on_carrier = Frame {
+        carrier_num: CARRIER,
+        ..adata
+    };
+    assert_eq!(link.frame(&on_carrier)?.next(), None);
+    assert_eq!(link.receipt(7).unwrap().state, TxState::Acknowledged);
+    let replies: Vec<_> = link
+        .tick_end()?
+        .map(|reply| (reply.kind, reply.bits.unwrap().bytes()[0]))
+        .collect();
+    assert_eq!(replies, [(Kind::Reply, 0b00110_000); 3]);
+
+    // Another N(S) goes up, and then the first one again; after a start, too.
+    for ns in [1, 0] {
+        let next = [0b0001_0000 | ns << 3];
+        assert_eq!(link.frame(&Frame::new(radio(1), CARRIER, bits(&next, 5)))?.count(), 1);
+    }
+    assert_eq!(link.frame(&data)?.next(), None);
+    link.start(CARRIER, 4)?;
+    assert_eq!(link.frame(&data)?.count(), 1);
     Ok(())
 }
 
@@ -292,6 +331,27 @@ fn each_refusal_carries_its_number() {
         (64, 0, 0)
     );
     assert_eq!(link.receipt(64), None);
+}
+
+#[test]
+fn a_frame_of_a_257th_address_is_refused() -> Result<(), Box<dyn Error>> {
+    let mut link = started();
+    let data = |ssi| Frame::new(radio(ssi), CARRIER, bits(&[0b00010_000], 5));
+    for ssi in 0..256 {
+        assert_eq!(link.frame(&data(ssi))?.count(), 1);
+        link.tick_end()?;
+    }
+    let refused = link.frame(&data(256)).unwrap_err();
+    assert_eq!(refused.number(), 7);
+    assert!(refused.question().starts_with("Acknowledged path, or frame with N(S):"));
+    assert_eq!((link.link_send_seqs(), link.scheduled_out_acks()), (256, 0));
+
+    // BL-UDATA needs no row, and those that have one need no other.
+    let udata = Frame::new(radio(256), CARRIER, bits(&[0b0010_0000], 4));
+    assert_eq!(link.frame(&udata)?.count(), 1);
+    assert_eq!(link.frame(&data(255))?.count(), 0);
+    assert_eq!(link.scheduled_out_acks(), 1);
+    Ok(())
 }
 
 #[test]

@@ -58,7 +58,12 @@ const NO_RECEIPT: ReceiptPlace = ReceiptPlace {
     state: 0,
 };
 
-const NO_ROW: LinkSendSeq = LinkSendSeq { ssi: 0, vs: false };
+const NO_ROW: LinkSendSeq = LinkSendSeq {
+    ssi: 0,
+    vs: false,
+    has_last_ns: false,
+    last_ns: false,
+};
 
 const NEW: State = State {
     started: false,
@@ -168,7 +173,7 @@ fn every_field_has_its_value() {
     };
     link.call("22 0005 5678 21 11 04", 0, &state);
 
-    // Frames with N(S) 1 and 0: acknowledgements are due, for two slots before.
+    // Frames with N(S) 1 and 0: acknowledgements are due, for two slots before, and each SSI has a row.
     state.n_acks = 1;
     state.scheduled_out_acks[0] = ScheduledOutAck {
         ssi: 0x0a0b0c,
@@ -176,6 +181,13 @@ fn every_field_has_its_value() {
         carrier_num: 0x0d0e,
         nr: true,
         ts: 2,
+    };
+    state.n_rows = 1;
+    state.link_send_seq[0] = LinkSendSeq {
+        ssi: 0x0a0b0c,
+        vs: false,
+        has_last_ns: true,
+        last_ns: true,
     };
     link.call("26 0014 0a0b0c 01 0d0e 01020304 05060708 02 aabb 0005 18", 37, &state);
     state.dltime = TdmaTime {
@@ -192,6 +204,13 @@ fn every_field_has_its_value() {
         carrier_num: 0x1d1e,
         nr: false,
         ts: 3,
+    };
+    state.n_rows = 2;
+    state.link_send_seq[1] = LinkSendSeq {
+        ssi: 0x1a1b1c,
+        vs: false,
+        has_last_ns: true,
+        last_ns: false,
     };
     link.call("26 0012 1a1b1c 02 1d1e 00000000 00000000 00 0005 10", 35, &state);
 
@@ -266,8 +285,12 @@ fn every_field_has_its_value() {
         expects_ack: true,
         state: 0,
     };
-    state.n_rows = 1;
-    state.link_send_seq[0] = LinkSendSeq { ssi: 0x606162, vs: true };
+    state.n_rows = 3;
+    state.link_send_seq[2] = LinkSendSeq {
+        ssi: 0x606162,
+        vs: true,
+        ..NO_ROW
+    };
     link.call(
         "24 001e 606162 01 00 0000 65666768 696a6b6c 6d6e6f70 00 00 33 03 717273 0010 4d31",
         0,
@@ -288,7 +311,7 @@ fn every_field_has_its_value() {
         },
     };
     state.receipts[0x34] = state.receipts[0x33];
-    state.link_send_seq[0].vs = false;
+    state.link_send_seq[2].vs = false;
     link.call(
         "24 0019 606162 01 00 0000 65666768 696a6b6c 6d6e6f70 00 00 34 00 0000",
         0,
@@ -307,13 +330,32 @@ fn every_field_has_its_value() {
         progress: NO_PROGRESS,
     };
     state.receipts[0x35] = state.receipts[0x33];
-    state.n_rows = 2;
-    state.link_send_seq[1] = LinkSendSeq { ssi: 0x747576, vs: true };
+    state.n_rows = 4;
+    state.link_send_seq[3] = LinkSendSeq {
+        ssi: 0x747576,
+        vs: true,
+        ..NO_ROW
+    };
     link.call(
         "24 001a 747576 01 01 7778 00000000 00000000 00000000 00 00 35 00 0001 80",
         0,
         &state,
     );
+
+    // A frame with N(S) 1 from an SSI that has a row already, and its repeat: nothing goes up, and it is acknowledged too.
+    for (due, len) in [(2, 35), (3, 0)] {
+        state.n_acks = due + 1;
+        state.scheduled_out_acks[due] = ScheduledOutAck {
+            ssi: 0x747576,
+            ssi_type: 1,
+            carrier_num: 0x7778,
+            nr: true,
+            ts: 3,
+        };
+        state.link_send_seq[3].has_last_ns = true;
+        state.link_send_seq[3].last_ns = true;
+        link.call("26 0012 747576 01 7778 00000000 00000000 00 0005 18", len, &state);
+    }
 
     // Tick end: the first of each SSI is passed down; replies and unacknowledged messages have gone.
     state.outbound_messages[0].progress.submitted_to_umac = true;
@@ -323,7 +365,7 @@ fn every_field_has_its_value() {
     state.n_acks = 0;
     state.scheduled_out_acks = NEW.scheduled_out_acks;
     let (message, reply, mask) = (4 + 6 + 4 + 5 + 7 + 7 + 7 + 4 + 4 + 3, 4 + 6 + 4 + 5 + 7 + 7 + 7 + 4, 4);
-    let records = (message + 3 + 8) + (message + 6) + 2 * (reply + mask + 6) + (message + mask + 64 + 8) + (message + mask + 6);
+    let records = (message + 3 + 8) + (message + 6) + 4 * (reply + mask + 6) + (message + mask + 64 + 8) + (message + mask + 6);
     link.call("23 0000", records, &state);
 
     // Reports.
@@ -401,7 +443,11 @@ fn every_field_has_its_value() {
         state: 0,
     };
     state.n_rows = 1;
-    state.link_send_seq[0] = LinkSendSeq { ssi: 0x808182, vs: true };
+    state.link_send_seq[0] = LinkSendSeq {
+        ssi: 0x808182,
+        vs: true,
+        ..NO_ROW
+    };
     link.call(
         "24 0019 808182 01 00 0000 00000000 00000000 00000000 00 00 7f 00 0000",
         0,
@@ -425,4 +471,35 @@ fn every_field_has_its_value() {
     state.outbound_messages[0] = NO_ENTRY;
     state.receipts[0x7f].state = 3;
     link.call("23 0000", 0, &state);
+}
+
+#[test]
+fn a_last_ns_that_there_is_not_is_not_read() {
+    let mut link = Known::new();
+    let mut state = NEW;
+    state.started = true;
+    state.t251 = 1;
+    link.call("21 0004 0000 0001", 0, &state);
+
+    // Handed in: a row without a last N(S), whose last_ns is set all the same.
+    state.n_rows = 1;
+    state.link_send_seq[0] = LinkSendSeq {
+        ssi: 0x0a0b0c,
+        vs: true,
+        has_last_ns: false,
+        last_ns: true,
+    };
+    link.state = state;
+
+    // A frame with N(S) 1 is the first: it goes up.
+    state.n_acks = 1;
+    state.scheduled_out_acks[0] = ScheduledOutAck {
+        ssi: 0x0a0b0c,
+        ssi_type: 1,
+        carrier_num: 0x0d0e,
+        nr: true,
+        ts: 3,
+    };
+    state.link_send_seq[0].has_last_ns = true;
+    link.call("26 0012 0a0b0c 01 0d0e 00000000 00000000 00 0005 18", 35, &state);
 }

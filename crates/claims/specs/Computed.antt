@@ -1,5 +1,6 @@
 -- Runs that the checker computes (llc_rule proofs/Runs and proofs/Instance): document 01's sample, its edges, what the course gets wrong,
--- awkward runs, marks, full widths, orders of questions, ranges, check sequences, check bits that are cut, and the instance.
+-- awkward runs, marks, full widths, orders of questions, ranges, check sequences, check bits that are cut, repeats, and the
+-- instance.
 use mathlib.Core.Path.{_≡_}
 use mathlib.Core.Bool.{true}
 use Rattle.llc_rule.specs.Link.{new}
@@ -14,6 +15,7 @@ use Rattle.llc_rule.proofs.Runs.Orders as Orders
 use Rattle.llc_rule.proofs.Runs.Ranges as Ranges
 use Rattle.llc_rule.proofs.Runs.Checks as Checks
 use Rattle.llc_rule.proofs.Runs.CheckBits as CheckBits
+use Rattle.llc_rule.proofs.Runs.Repeats as Repeats
 use Rattle.llc_rule.proofs.Instance.{instance, turned}
 
 pub record Computed : Type 0 where
@@ -65,5 +67,25 @@ pub record Computed : Type 0 where
   pub check-bits-twice : agrees new CheckBits.twice ≡ true
   pub check-bits-acknowledged : agrees new CheckBits.acknowledged ≡ true
   pub check-bits-other-flag : agrees new CheckBits.other-flag ≡ true
+  pub repeats-adata-after-data : agrees new Repeats.adata-after-data ≡ true
+  pub repeats-data-after-adata : agrees new Repeats.data-after-adata ≡ true
+  pub repeats-other-carrier : agrees new Repeats.other-carrier ≡ true
+  pub repeats-other-type : agrees new Repeats.other-type ≡ true
+  pub repeats-between : agrees new Repeats.between ≡ true
+  pub repeats-never-repeats : agrees new Repeats.never-repeats ≡ true
+  pub repeats-empty : agrees new Repeats.empty ≡ true
+  pub repeats-finishes : agrees new Repeats.finishes ≡ true
+  pub repeats-moves-to-front : agrees new Repeats.moves-to-front ≡ true
+  pub repeats-before-done-time : agrees new Repeats.before-done-time ≡ true
+  pub repeats-refused-by-12 : agrees new Repeats.refused-by-12 ≡ true
+  pub repeats-refused-by-14 : agrees new Repeats.refused-by-14 ≡ true
+  pub repeats-refused-otherwise : agrees new Repeats.refused-otherwise ≡ true
+  pub repeats-refused-by-13 : agrees new Repeats.refused-by-13 ≡ true
+  pub repeats-after-start : agrees new Repeats.after-start ≡ true
+  pub repeats-request-row : agrees new Repeats.request-row ≡ true
+  pub repeats-frame-row : agrees new Repeats.frame-row ≡ true
+  pub repeats-interleaved : agrees new Repeats.interleaved ≡ true
+  pub repeats-send-side : agrees new Repeats.send-side ≡ true
+  pub repeats-rows : agrees crowded Repeats.rows-of-frames ≡ true
   pub instance-agrees : agrees new instance ≡ true
   pub turned-agrees : agrees new turned ≡ true

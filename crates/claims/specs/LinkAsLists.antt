@@ -1,30 +1,34 @@
 -- The link as lists, and demand 3 of it (llc_rule).
 use Prim.Native.Nat.{ℕ, _+_, _/_, _≤_}
 use mathlib.Core.Path.{_≡_}
-use mathlib.Core.Bool.{true, false}
+use mathlib.Core.Bool.{Bool, true, false}
 use mathlib.Core.List.{List, [], _∷_}
+use mathlib.Core.Option.{some}
 use lib.Dec.{eqb}
 use lib.ListN.{drop, length}
 use Rattle.lists.specs.Lists.{all, All}
-use Rattle.questions.specs.Outcome.{accepted, number}
+use Rattle.questions.specs.Outcome.{accepted}
 use Rattle.llc_pdus.specs.Received.{wholeFrame}
+use Rattle.llc_pdus.specs.Headers.{nsOf}
+use Rattle.llc_pdus.specs.declared.Pdu.{Pdu}
 use Rattle.llc_pdus.specs.declared.Pdu.the-variants.{BlData, BlAck}
-use Rattle.llc_rule.specs.Calls.{frame, frameIn, parsed}
+use Rattle.llc_rule.specs.Calls.{Frame, frame, frameIn, parsed}
 use Rattle.llc_rule.specs.Limits.{outputBytes}
 use Rattle.llc_rule.specs.Claim.{Claims}
 use Rattle.llc_rule.specs.Seen.{SeesTheSame, ruled, unhindered}
+use Rattle.llc_rule.specs.Repeats.{begins, hears, heardIn, WentUp}
 use Rattle.llc_rule.specs.Texts.{textsIn}
 use Rattle.llc_rule.specs.Sendings.{AtMostFour, sendings}
 use Rattle.llc_rule.specs.Link.{Link, new}
-use Rattle.llc_rule.specs.Runs.{Exchange, after, exchange, given, left, run}
+use Rattle.llc_rule.specs.Runs.{Exchange, after, given, left, run}
 use Rattle.llc_rule.specs.Past.{holdersAfter}
 use Rattle.llc_rule.specs.Sound.{Sound, Within}
 use Rattle.llc_rule.specs.Records.{Indication, Record, Reply, Sent, allBytes, bytes, indicationBytes, kind, replyBytes, sentBytes}
 use Rattle.llc_rule.specs.Sizes.{Fits, Small}
 use Rattle.llc_rule.specs.Step.{step}
-use Rattle.llc_rule.proofs.Applied.{answers, asked, secondRequest, text}
+use Rattle.llc_rule.proofs.Applied.{answers, asked, secondRequest, told, toldAt, text, again}
 use Rattle.llc_rule.proofs.FitsRuns.{FitsLink}
-use Rattle.llc_rule.proofs.Instance.{ackOfFirst, askSecond, textOfFirst, hasKind, hasNumber, instanceCalls, laterCalls, second, turnedCalls}
+use Rattle.llc_rule.proofs.Instance.{first, ackOfFirst, askSecond, textOfFirst, hasKind, hasNumber, instanceCalls, laterCalls, second, turnedCalls}
 use Rattle.llc_rule.proofs.Records.{maskSize, sizeIfAny}
 use Rattle.llc_rule.proofs.Values.{IsByte}
 
@@ -53,16 +57,33 @@ pub record LinkAsLists : Type 0 where
       AtMostFour secondRequest (sendings 0x22 (drop 4 (ruled second (run new instanceCalls))))
   pub answers-are : ruled second (run new instanceCalls) ≡ answers
   pub four-times-by-rule : eqb (length (sendings 0x22 (drop 4 answers))) 4 ≡ true
-  -- Two calls of it, put to the link after the first request: a text that comes with check bits goes up without them, an
-  -- acknowledgement with check bits and nothing else sends nothing up.
-  pub text-spelled : parsed textOfFirst ≡ accepted (frame (frameIn (drop 3 textOfFirst)))
-  pub text-accepted : number (step asked textOfFirst) ≡ 0
-  pub ack-spelled : parsed ackOfFirst ≡ accepted (frame (frameIn (drop 3 ackOfFirst)))
-  pub ack-accepted : number (step asked ackOfFirst) ≡ 0
+  -- Two of its calls: a text that comes with check bits goes up without them, an acknowledgement with check bits and nothing else
+  -- sends nothing up.
+  pub told-is : run new instanceCalls ≡ told
+  pub text-spelled : parsed (toldAt 8 .call) ≡ accepted (frame (frameIn (drop 3 textOfFirst)))
+  pub text-accepted : toldAt 8 .number ≡ 0
+  pub ack-spelled : parsed (toldAt 23 .call) ≡ accepted (frame (frameIn (drop 3 ackOfFirst)))
+  pub ack-accepted : toldAt 23 .number ≡ 0
   pub text-framed : frameIn (drop 3 textOfFirst) .pdu ≡ wholeFrame (BlData true true) text
-  pub text-instance : textsIn (exchange textOfFirst (step asked textOfFirst) .records) ≡ text ∷ []
+  pub text-instance : textsIn (toldAt 8 .records) ≡ text ∷ []
   pub ack-framed : frameIn (drop 3 ackOfFirst) .pdu ≡ wholeFrame (BlAck true false) []
-  pub ack-instance : textsIn (exchange ackOfFirst (step asked ackOfFirst) .records) ≡ []
+  pub ack-instance : textsIn (toldAt 23 .records) ≡ []
+  -- The text is the first since its start, and goes up; its repeat does not; the next has another N(S) and goes up.
+  pub begun : heardIn (toldAt 1) ≡ begins
+  pub text-heard : heardIn (toldAt 8) ≡ hears first true text
+  pub repeat-heard : heardIn (toldAt 10) ≡ hears first true again
+  pub new-heard : heardIn (toldAt 11) ≡ hears first false []
+  pub text-first : WentUp first text (toldAt 8 .records)
+  pub repeat-stopped : toldAt 10 .records ≡ []
+  pub new-up : WentUp first [] (toldAt 11 .records)
+  -- An accepted frame of a PDU with an N(S) and a text is heard with them.
+  pub hears-framed :
+      (e : Exchange) (f : Frame) (p : Pdu) (text : List ℕ) (ns : Bool)
+      → parsed (e .call) ≡ accepted (frame f)
+      → f .pdu ≡ wholeFrame p text
+      → nsOf p ≡ some ns
+      → e .number ≡ 0
+      → heardIn e ≡ hears (f .ssi) ns text
   -- What holds of queues, tables and receipts after every run.
   pub sound-run : (cs : List (List ℕ)) → Sound (holdersAfter (run new cs)) (after new cs)
   -- A record's bytes determine it.

@@ -1,20 +1,23 @@
 -- Runs of the entry point (llc_runs).
 use Prim.Native.Nat.{ℕ, _≤_}
 use mathlib.Core.Path.{_≡_}
-use mathlib.Core.Bool.{true, false}
-use mathlib.Core.List.{List, [], _∷_, map}
+use mathlib.Core.Bool.{Bool, true, false, not}
+use mathlib.Core.List.{List, [], _∷_, _++_, map}
 use mathlib.Core.Option.{some}
 use lib.Dec.{eqb}
 use lib.ListN.{drop, length}
 use Rattle.lists.specs.Lists.{all, among}
 use Rattle.bits.specs.Bits.{AllBytes, bits}
 use Rattle.questions.specs.Outcome.{accepted}
+use Rattle.llc_pdus.specs.Headers.{nsOf}
 use Rattle.llc_pdus.specs.Received.{wholeFrame}
 use Rattle.llc_pdus.specs.declared.Pdu.{Pdu}
 use Rattle.llc_rule.specs.Calls.{Request, Frame, frame, parsed}
 use Rattle.llc_rule.specs.Seen.{SeesItsOwnPast, SeesTheSame, calls, ruleAfter, ruleSights, ruled, unhindered}
 use Rattle.llc_rule.specs.Sendings.{AtMostFour, requestSpelled, sendings}
-use Rattle.llc_rule.specs.Texts.{textsIn, shown}
+use Rattle.llc_rule.specs.Runs.{Exchange}
+use Rattle.llc_rule.specs.Repeats.{begins, hears, heardIn, lastHeard, noneFrom, WentUp}
+use Rattle.llc_rule.specs.Texts.{textsIn, shown, unlessLast}
 use Rattle.llc_rule.specs.Past.{heldBy, holdersAfter, past, sight, strays, takenFrom}
 use Rattle.llc_rule.specs.Rule.{atFirst}
 use Rattle.llc_rule.proofs.Applied.{secondRequest}
@@ -34,7 +37,7 @@ pub record Runs : Type 0 where
   -- The contract of `call` leaves one answer, and a refusal changes no byte.
   pub one-answer : OneAnswer
   pub no-leaves-all : NoLeavesAll
-  -- All that is claimed of every run; what it says of an address, of one answer, of a text that came in and of four sendings is
+  -- All that is claimed of every run; what it says of an address, of one answer, of a text that came in, of repeats and of four sendings is
   -- spelled out below.
   pub claim : Claim
   pub seen :
@@ -63,7 +66,8 @@ pub record Runs : Type 0 where
       → parsed (c .call) ≡ accepted (frame f)
       → f .pdu ≡ wholeFrame p text
       → exchange (after (begin store) before) c .number ≡ 0
-      → textsIn (exchange (after (begin store) before) c .records) ≡ shown p text
+      → textsIn (exchange (after (begin store) before) c .records)
+      ≡ unlessLast (lastHeard (f .ssi) (run (begin store) before)) (nsOf p) (shown p text)
   pub texts-read :
       (store : List ℕ) (before : List Lent) (c : Lent) (f : Frame) (p : Pdu) (text : List ℕ)
       → parsed (c .call) ≡ accepted (frame f)
@@ -74,6 +78,36 @@ pub record Runs : Type 0 where
       → parsed (c .call) ≡ accepted (frame f)
       → exchange (after (begin store) before) c .number ≡ 0
       → (p : Pdu) × ((text : List ℕ) × (f .pdu ≡ wholeFrame p text))
+  -- Of two accepted frames with N(S) of one address that follow one another with no start between, the second sends its SDU up
+  -- exactly if its N(S) is another; the first after a start always does. An accepted frame of a PDU with an N(S) and a text is
+  -- one that is heard with them.
+  pub repeats-same :
+      (store : List ℕ) (cs : List Lent)
+      (before : List Exchange) (c : Exchange) (between : List Exchange) (d : Exchange) (later : List Exchange)
+      (a : ℕ) (ns : Bool) (sdu again : List ℕ)
+      → run (begin store) cs ≡ before ++ (c ∷ (between ++ (d ∷ later)))
+      → heardIn c ≡ hears a ns sdu
+      → noneFrom a between ≡ true
+      → heardIn d ≡ hears a ns again
+      → d .records ≡ []
+  pub repeats-other :
+      (store : List ℕ) (cs : List Lent)
+      (before : List Exchange) (c : Exchange) (between : List Exchange) (d : Exchange) (later : List Exchange)
+      (a : ℕ) (ns : Bool) (sdu next : List ℕ)
+      → run (begin store) cs ≡ before ++ (c ∷ (between ++ (d ∷ later)))
+      → heardIn c ≡ hears a ns sdu
+      → noneFrom a between ≡ true
+      → heardIn d ≡ hears a (not ns) next
+      → WentUp a next (d .records)
+  pub repeats-first :
+      (store : List ℕ) (cs : List Lent)
+      (before : List Exchange) (c : Exchange) (between : List Exchange) (d : Exchange) (later : List Exchange)
+      (a : ℕ) (ns : Bool) (sdu : List ℕ)
+      → run (begin store) cs ≡ before ++ (c ∷ (between ++ (d ∷ later)))
+      → heardIn c ≡ begins
+      → noneFrom a between ≡ true
+      → heardIn d ≡ hears a ns sdu
+      → WentUp a sdu (d .records)
   pub one :
       (s : State) (store out bytes : List ℕ) (l m : Left)
       → AllBytes (l .store)

@@ -1,13 +1,12 @@
 -- Laws of tables.
-use Prim.Native.Nat.{ℕ, suc, _≤_}
-use native.Mathlib.Omega.{arith}
-use mathlib.Core.Path.{_≡_, _∙_, refl, ap}
+use Prim.Native.Nat.{suc}
+use mathlib.Core.Path.{_≡_, refl, ap}
 use mathlib.Core.Bool.{Bool, true, false, cond}
 use mathlib.Core.List.{List, [], _∷_, map}
 use lib.ListN.{length, getD}
 use Rattle.lists.specs.Lists.{any, All, firstOr, filed}
 use Rattle.lists.specs.Arrays.{position, placed}
-use Rattle.lists.proofs.Choices.{by-test, either, clash, ap-cond}
+use Rattle.lists.proofs.Choices.{by-test, either}
 
 module _ {A : Type 0} where
   -- The row that was filed is found, and no other is changed.

@@ -1,4 +1,4 @@
-pub mod Due
+pub mod Numbered
 pub mod Found
 pub mod Paths
 pub mod Slot

@@ -1,32 +1,34 @@
 -- A frame that came in: what is answered on each path.
-use Prim.Native.Nat.{ℕ, _-_, _*_, _≤_}
+use Prim.Native.Nat.{ℕ, _-_, _*_, _≤_, _<_}
 use native.Mathlib.Omega.{arith}
 use native.Mathlib.Nat.{zero-add}
 use mathlib.Core.Path.{_≡_, _∙_, refl, sym, ap, ap₂, subst}
-use mathlib.Core.Bool.{Bool, true, false, _&&_}
-use mathlib.Core.List.{List}
+use mathlib.Core.Bool.{Bool, true, false, cond, _&&_}
+use mathlib.Core.List.{List, []}
 use mathlib.Core.Option.{Option, none, some}
 use borrow.Author.Tests.{leb-true, leb-false, lt-ltb, le-ltb}
-use lib.Dec.{leb}
+use lib.Dec.{leb, ltb}
 use lib.ListN.{length, take, drop, length-take, length-drop}
-use Rattle.lists.specs.Lists.{Found}
-use Rattle.lists.specs.Arrays.{position}
-use Rattle.lists.specs.Writes.{Wrote}
+use Rattle.lists.specs.Lists.{Found, nothing}
+use Rattle.lists.specs.Writes.{write, Wrote}
 use Rattle.lists.proofs.Writes.{write-is}
-use Rattle.lists.proofs.Choices.{both}
-use Rattle.questions.specs.Outcome.{Outcome, accepted, refused, ask}
+use Rattle.lists.proofs.Choices.{both, either}
+use Rattle.questions.specs.Outcome.{Outcome, accepted, refused}
+use Rattle.questions.proofs.Asked.{ask-yes, ask-no}
 use Rattle.bits.specs.Bits.{bits, part}
 use Rattle.bits.proofs.Laws.{length-bits, part-take}
 use Rattle.llc_pdus.specs.Answers.{answered as readAs, readFrom}
 use Rattle.llc_pdus.specs.Headers.{nsOf, nrOf}
 use Rattle.llc_pdus.specs.Received.{Received, received}
-use Rattle.llc_pdus.specs.Sdus.{sduAt, holding, handed, Part, numbered, handedBack}
+use Rattle.llc_pdus.specs.Sdus as Sdus
+use Rattle.llc_pdus.specs.Sdus.{sduAt, holding, handed, Part, handedBack}
 use Rattle.llc_pdus.specs.declared.Pdu.{Pdu}
 use Rattle.llc_pdus.specs.declared.Read.{Read}
 use Rattle.llc_pdus.specs.declared.Sdu.{Sdu}
 use Rattle.llc_pdus.proofs.Holding.{held-is, handed-in}
 use Rattle.llc_pdus.proofs.Received.{receivedAs, SduIn, SduInside, ReadAs, read-as, lent}
 use Rattle.llc_rule.specs.Limits.{outputBytes}
+use Rattle.llc_rule.specs.Calls.{Frame}
 use Rattle.llc_rule.specs.Upward.{upward}
 use Rattle.llc_rule.specs.Records.{Record, allBytes}
 use Rattle.llc_calls.specs.Decoded.{frameOf, FrameInside}
@@ -36,17 +38,19 @@ use Rattle.llc_received.specs.Numbers.{numberIf, nsIn, nrIn}
 use Rattle.llc_received.specs.Upward.{SduLent}
 use Rattle.llc_received.specs.declared.numbers.SeqNumbers.{SeqNumbers}
 use Rattle.llc_received.proofs.SentUp.{up-size, frame-small}
+use Rattle.llc_state.specs.Ranges.{stateInRange}
 use Rattle.llc_state.specs.declared.Entry.{Entry}
-use Rattle.llc_state.specs.declared.ScheduledOutAck.{ScheduledOutAck}
 use Rattle.llc_state.specs.declared.State.{State}
+use Rattle.llc_state.proofs.Lengths.{Lengths}
 use Rattle.llc_steps.specs.Answers.{effect, answer, laidOut, delivered, WithAnyStore}
-use Rattle.llc_steps.specs.Calls.{ackRoom, scheduled, expected, finishable, mayFinish, answeredBy, answered, onReceived}
-use Rattle.llc_steps.specs.States.{messagesOf, withAcks, Kept, kept}
+use Rattle.llc_steps.specs.Calls.{rowIfNumbered, ackRoom, numbered, isRepeat, expected, finishable, mayFinish, answeredBy, answered, onReceived}
+use Rattle.llc_steps.specs.States.{messagesOf, Kept, kept}
 use Rattle.llc_steps.specs.declared.Answer.{Answer}
+use Rattle.llc_steps.proofs.Rows.{row-by}
 use Rattle.llc_queues.specs.Queues.{expectedOn}
 use Rattle.llc_frames.specs.Answered.{foundAt}
-use Rattle.llc_frames.specs.Numbers.{dueTo}
-use Rattle.llc_frames.proofs.Found.{found-is}
+use Rattle.llc_frames.specs.Numbers.{rowPlace, ackPlace}
+use Rattle.llc_frames.proofs.Found.{found-is, found-nothing}
 
 -- A call that is refused, and one that writes records and leaves another state.
 refused-store :
@@ -85,27 +89,60 @@ accepted-store {r} {s} {t} {out} {m} {n} rs o e w h f =
           ∙ sym (ap (delivered s store out) (f store));
     }
 
--- The acknowledgements due, as the code has them.
-scheduled-is : (f : FrameCall) (b : List ℕ) (o : Option Bool) (s : State) → scheduled (frameOf f b) o s ≡ dueTo f o s
-unfolding frameOf
-scheduled-is f b none s = refl
-scheduled-is f b (some ns) s = refl
+-- What is written of a repeat, and of any other frame.
+pub repeat-wrote : (rs : List Record) (out : List ℕ) {repeat : Bool} → repeat ≡ true → Wrote out 0 (allBytes (cond repeat [] rs)) out 0
+unfolding write allBytes
+repeat-wrote rs out e = rw e (record { next = refl; holds = refl })
 
--- The message that an acknowledgement is for.
-expected-is :
-    (f : FrameCall) (b : List ℕ) (s : State) {i : ℕ}
-    → i ≡ position (expectedOn (f .ssi) (f .carrier)) (messagesOf s)
-    → expected (frameOf f b) s ≡ foundAt i (messagesOf s)
+pub fresh-wrote :
+    (rs : List Record) {out m : List ℕ} {k : ℕ} {repeat : Bool}
+    → repeat ≡ false
+    → Wrote out 0 (allBytes rs) m k
+    → Wrote out 0 (allBytes (cond repeat [] rs)) m k
+fresh-wrote rs e w = rw e w
+
+-- What was found is the message that an N(R) is for, and nothing where there is no N(R); the N(R), if there is one.
+abbrev AwaitedAt : Frame → Option Bool → Found Entry → State → Type 0
+AwaitedAt f none g s = g ≡ nothing
+AwaitedAt f (some nr) g s = g ≡ expected f s
+
+abbrev numberIs : Bool → Option Bool → Type 0
+numberIs nr none = Unit {0}
+numberIs nr (some n) = n ≡ nr
+
+-- The message that an acknowledgement is for, by its place; nothing stands there where there is no N(R).
+awaited :
+    (f : FrameCall) (b : List ℕ) (x : Option Bool) (s : State) {i : ℕ}
+    → i ≡ ackPlace (f .ssi) (f .carrier) x s
+    → AwaitedAt (frameOf f b) x (foundAt i (messagesOf s)) s
 unfolding frameOf expected
-expected-is f b s e =
-    found-is (expectedOn (f .ssi) (f .carrier)) (messagesOf s) ∙ sym (ap (λ (k : ℕ). foundAt k (messagesOf s)) e)
+awaited f b none s e =
+    ap (λ (k : ℕ). foundAt k (messagesOf s)) e ∙ found-nothing (s .«n_messages») (s .«n_messages») (s .«outbound_messages») (omega arith)
+awaited f b (some nr) s e =
+    ap (λ (k : ℕ). foundAt k (messagesOf s)) e ∙ sym (found-is (expectedOn (f .ssi) (f .carrier)) (messagesOf s))
 
--- A question passed, and one failed.
-ask-yes : {A : Type 0} (n : ℕ) {b : Bool} (o : Outcome A) → b ≡ true → ask n b o ≡ o
-ask-yes n o e = rw e
+-- Question 14 and what N(R) does, by that message.
+finish-by : (f : Frame) (x : Option Bool) (nr : Bool) (g : Found Entry) (s : State) → AwaitedAt f x g s → numberIs nr x → mayFinish f x s ≡ finishable nr g s
+finish-by f none nr g s e k = sym (ap (λ (y : Found Entry). finishable nr y s) e)
+finish-by f (some n) nr g s e k = ap₂ (λ (m : Bool) (y : Found Entry). finishable m y s) k (sym e)
 
-ask-no : {A : Type 0} (n : ℕ) {b : Bool} (o : Outcome A) → b ≡ false → ask n b o ≡ refused n
-ask-no n o e = rw e
+answered-by : (f : Frame) (x : Option Bool) (nr : Bool) (g : Found Entry) (s : State) → AwaitedAt f x g s → numberIs nr x → answered f x s ≡ answeredBy nr g s
+unfolding answeredBy
+answered-by f none nr g s e k = sym (ap (λ (y : Found Entry). answeredBy nr y s) e)
+answered-by f (some n) nr g s e k = ap₂ (λ (m : Bool) (y : Found Entry). answeredBy m y s) k (sym e)
+
+-- The number that is there is that of the code.
+number-in : (has nr : Bool) → numberIs nr (numberIf has nr)
+number-in false nr = tt
+number-in true nr = refl
+
+-- N(S) leaves the messages.
+same-place :
+    (f : FrameCall) (x y : Option Bool) (s : State)
+    → ackPlace (f .ssi) (f .carrier) x (numbered (f .ssi) (f .«ssi_type») (f .carrier) y s) ≡ ackPlace (f .ssi) (f .carrier) x s
+same-place f x none s = refl
+same-place f none (some ns) s = refl
+same-place f (some nr) (some ns) s = refl
 
 -- The frame f of the call b with the PDU p, whose SDU is len bits from a place of the part l on.
 module _
@@ -117,6 +154,22 @@ module _
 
     abbrev outcome : List ℕ → Outcome Kept
     outcome store = onReceived (frameOf f b) (accepted (record { header = p; sdu = sdu })) s store
+
+    -- Question 7, by the place of its row.
+    module _ (ok : stateInRange s ≡ true) (long : Lengths s) {row : ℕ} (row-is : row ≡ rowPlace (f .ssi) (nsIn n) s) where
+      row-asked : (x : Option Bool) → rowIfNumbered (f .ssi) x s ≡ ltb (rowPlace (f .ssi) x s) 256
+      row-asked none = refl
+      row-asked (some ns) = row-by (f .ssi) s ok long
+
+      row-there : rowIfNumbered (f .ssi) (nsOf p) s ≡ ltb row 256
+      row-there = ap (λ (x : Option Bool). rowIfNumbered (f .ssi) x s) (sym ns-is) ∙ row-asked (nsIn n) ∙ ap (λ (k : ℕ). ltb k 256) (sym row-is)
+
+      pub rows-full : {r : Answer} (out : List ℕ) → 256 ≤ row → r ≡ answer 7 s 0 → WithAnyStore r out s out outcome
+      unfolding onReceived frameOf
+      rows-full out h e = refused-store 7 s out outcome e (λ store. ask-no 7 _ (row-there ∙ le-ltb row 256 h))
+
+      pub row-left : row < 256 → rowIfNumbered (f .ssi) (nsOf p) s ≡ true
+      row-left h = row-there ∙ lt-ltb row 256 h
 
     -- Question 13.
     abbrev full : Bool
@@ -137,102 +190,90 @@ module _
     pub has-room : full ≡ false → ackRoom (nsIn n) s ≡ true
     has-room h = ap (λ (o : Option Bool). ackRoom o s) ns-is ∙ room-left h
 
-    pub acks-full : {r : Answer} (out : List ℕ) → full ≡ true → r ≡ answer 13 s 0 → WithAnyStore r out s out outcome
-    unfolding onReceived
-    acks-full out h e =
+    pub acks-full :
+        {r : Answer} (out : List ℕ)
+        → rowIfNumbered (f .ssi) (nsOf p) s ≡ true
+        → full ≡ true
+        → r ≡ answer 13 s 0
+        → WithAnyStore r out s out outcome
+    unfolding onReceived frameOf
+    acks-full out row h e =
         let t = both {x = n .«has_ns»} {y = leb 64 (s .«n_acks»)} h in
         let no : ackRoom (nsOf p) s ≡ false = room-by (t .0) ∙ le-ltb (s .«n_acks») 64 (leb-true 64 (s .«n_acks») (t .1)) in
-        refused-store 13 s out outcome e (λ store. ask-no 13 _ no)
+        refused-store 13 s out outcome e (λ store. ask-yes 7 _ row ∙ ask-no 13 _ no)
 
     -- What goes up fits into the output.
-    fits-out : frameRange f ≡ true → SduLent l place len → length (allBytes (upward (frameOf f b) p sdu)) ≤ 434
-    unfolding frameOf
-    fits-out h k =
+    fits-out :
+        (repeat : Bool)
+        → frameRange f ≡ true
+        → SduLent l place len
+        → length (allBytes (cond repeat [] (upward (frameOf f b) p sdu))) ≤ 434
+    unfolding frameOf allBytes
+    fits-out repeat h k =
         let small = frame-small f h in
-        up-size (frameOf f b) p sdu
+        either (λ (rs : List Record). length (allBytes rs) ≤ 434) repeat
+        (omega arith)
+        (up-size (frameOf f b) p sdu
         (omega (arith, length-take (f .«block_len») (drop (f .block) b)))
-        (omega (arith, length-take len (drop place (bits l)), k .short))
+        (omega (arith, length-take len (drop place (bits l)), k .short)))
 
-    -- Both questions passed: what is left of them is another state.
-    passed :
-        {r : Answer} {t : State} {out m : List ℕ} {k : ℕ}
-        → full ≡ false
-        → mayFinish (frameOf f b) (nrOf p) s ≡ true
-        → answered (frameOf f b) (nrOf p) (withAcks s (scheduled (frameOf f b) (nsOf p) s)) ≡ t
-        → frameRange f ≡ true
-        → SduLent l place len
-        → outputBytes ≤ length out
-        → r ≡ answer 0 t k
-        → Wrote out 0 (allBytes (upward (frameOf f b) p sdu)) m k
-        → WithAnyStore r m s out outcome
-    unfolding onReceived
-    passed {t = t} h q u range inside long e w =
-        accepted-store (upward (frameOf f b) p sdu) outcome e w (omega (arith, fits-out range inside))
-        (λ store.
-        ask-yes 13 _ (room-left h)
-        ∙ ask-yes 14 _ q
-        ∙ ap (λ (x : State). accepted (kept x store (upward (frameOf f b) p sdu))) u)
+    -- Question 14, for the message of a place.
+    module _ {i : ℕ} (i-is : i ≡ ackPlace (f .ssi) (f .carrier) (nrIn n) s) where
+      awaited-there : AwaitedAt (frameOf f b) (nrOf p) (foundAt i (messagesOf s)) s
+      awaited-there = subst (λ (x : Option Bool). AwaitedAt (frameOf f b) x (foundAt i (messagesOf s)) s) nr-is (awaited f b (nrIn n) s i-is)
 
-    due-is : scheduled (frameOf f b) (nsOf p) s ≡ dueTo f (nsIn n) s
-    due-is = scheduled-is f b (nsOf p) s ∙ ap (λ (o : Option Bool). dueTo f o s) (sym ns-is)
-
-    -- No N(R).
-    pub no-nr :
-        {r : Answer} {t : State} {out m : List ℕ} {k : ℕ}
-        → full ≡ false
-        → n .«has_nr» ≡ false
-        → t ≡ withAcks s (dueTo f (nsIn n) s)
-        → frameRange f ≡ true
-        → SduLent l place len
-        → outputBytes ≤ length out
-        → r ≡ answer 0 t k
-        → Wrote out 0 (allBytes (upward (frameOf f b) p sdu)) m k
-        → WithAnyStore r m s out outcome
-    no-nr h none-is u range inside long e w =
-        let none-in : nrOf p ≡ none = sym nr-is ∙ ap (λ (t : Bool). numberIf t (n .nr)) none-is in
-        passed h (ap (λ (o : Option Bool). mayFinish (frameOf f b) o s) none-in)
-        (ap₂ (λ (o : Option Bool) (ds : List ScheduledOutAck). answered (frameOf f b) o (withAcks s ds)) none-in due-is ∙ sym u)
-        range inside long e w
-
-    -- An N(R), for the message of a place.
-    module _ {i : ℕ} (i-is : i ≡ position (expectedOn (f .ssi) (f .carrier)) (messagesOf s)) (some-is : n .«has_nr» ≡ true) where
-      some-in : nrOf p ≡ some (n .nr)
-      some-in = sym nr-is ∙ ap (λ (t : Bool). numberIf t (n .nr)) some-is
+      number-there : numberIs (n .nr) (nrOf p)
+      number-there = subst (numberIs (n .nr)) nr-is (number-in (n .«has_nr») (n .nr))
 
       may-finish : mayFinish (frameOf f b) (nrOf p) s ≡ finishable (n .nr) (foundAt i (messagesOf s)) s
-      may-finish =
-          ap (λ (o : Option Bool). mayFinish (frameOf f b) o s) some-in
-          ∙ ap (λ (x : Found Entry). finishable (n .nr) x s) (expected-is f b s i-is)
+      may-finish = finish-by (frameOf f b) (nrOf p) (n .nr) (foundAt i (messagesOf s)) s awaited-there number-there
 
       pub not-finishable :
           {r : Answer} (out : List ℕ)
+          → rowIfNumbered (f .ssi) (nsOf p) s ≡ true
           → full ≡ false
           → finishable (n .nr) (foundAt i (messagesOf s)) s ≡ false
           → r ≡ answer 14 s 0
           → WithAnyStore r out s out outcome
-      unfolding onReceived
-      not-finishable out h q e = refused-store 14 s out outcome e (λ store. ask-yes 13 _ (room-left h) ∙ ask-no 14 _ (may-finish ∙ q))
+      unfolding onReceived frameOf
+      not-finishable out row h q e =
+          refused-store 14 s out outcome e (λ store. ask-yes 7 _ row ∙ ask-yes 13 _ (room-left h) ∙ ask-no 14 _ (may-finish ∙ q))
 
-      pub with-nr :
-          {r : Answer} {next t : State} {out m : List ℕ} {k : ℕ}
+      -- All three passed: what the code leaves, and what it sends up.
+      pub heard :
+          {r : Answer} {next t : State} {out m : List ℕ} {k : ℕ} {repeat : Bool}
+          → rowIfNumbered (f .ssi) (nsOf p) s ≡ true
           → full ≡ false
           → finishable (n .nr) (foundAt i (messagesOf s)) s ≡ true
-          → next ≡ withAcks s (dueTo f (nsIn n) s)
+          → repeat ≡ isRepeat (f .ssi) (nsIn n) s
+          → next ≡ numbered (f .ssi) (f .«ssi_type») (f .carrier) (nsIn n) s
           → t ≡ answeredBy (n .nr) (foundAt i (messagesOf next)) next
           → frameRange f ≡ true
           → SduLent l place len
           → outputBytes ≤ length out
           → r ≡ answer 0 t k
-          → Wrote out 0 (allBytes (upward (frameOf f b) p sdu)) m k
+          → Wrote out 0 (allBytes (cond repeat [] (upward (frameOf f b) p sdu))) m k
           → WithAnyStore r m s out outcome
-      with-nr {next = next} h q v u range inside long e w =
-          let due : State = withAcks s (dueTo f (nsIn n) s) in
-          passed h (may-finish ∙ q)
-          (ap₂ (λ (o : Option Bool) (ds : List ScheduledOutAck). answered (frameOf f b) o (withAcks s ds)) some-in due-is
-          ∙ ap (λ (x : Found Entry). answeredBy (n .nr) x due) (expected-is f b due i-is)
+      unfolding onReceived frameOf
+      heard {next = next} {t} {repeat = repeat} row h q again v u range inside room e w =
+          let ns : State = numbered (f .ssi) (f .«ssi_type») (f .carrier) (nsIn n) s in
+          let there : i ≡ ackPlace (f .ssi) (f .carrier) (nrIn n) ns = i-is ∙ sym (same-place f (nrIn n) (nsIn n) s) in
+          let found : AwaitedAt (frameOf f b) (nrOf p) (foundAt i (messagesOf ns)) ns =
+          subst (λ (x : Option Bool). AwaitedAt (frameOf f b) x (foundAt i (messagesOf ns)) ns) nr-is (awaited f b (nrIn n) ns there)
+          in
+          let left : answered (frameOf f b) (nrOf p) (numbered (f .ssi) (f .«ssi_type») (f .carrier) (nsOf p) s) ≡ t =
+          ap (λ (x : Option Bool). answered (frameOf f b) (nrOf p) (numbered (f .ssi) (f .«ssi_type») (f .carrier) x s)) (sym ns-is)
+          ∙ answered-by (frameOf f b) (nrOf p) (n .nr) (foundAt i (messagesOf ns)) ns found number-there
           ∙ ap (λ (x : State). answeredBy (n .nr) (foundAt i (messagesOf x)) x) (sym v)
-          ∙ sym u)
-          range inside long e w
+          ∙ sym u
+          in
+          let same : isRepeat (f .ssi) (nsOf p) s ≡ repeat = ap (λ (x : Option Bool). isRepeat (f .ssi) x s) (sym ns-is) ∙ sym again in
+          accepted-store (cond repeat [] (upward (frameOf f b) p sdu)) outcome e w (omega (arith, fits-out repeat range inside))
+          (λ store.
+          ask-yes 7 _ row
+          ∙ ask-yes 13 _ (room-left h)
+          ∙ ask-yes 14 _ (may-finish ∙ q)
+          ∙ ap₂ (λ (x : State) (again : Bool). accepted (kept x store (cond again [] (upward (frameOf f b) p sdu)))) left same)
 
 -- The frame of a call, read where it lies.
 module _ (s : State) (f : FrameCall) (b : List ℕ) where
@@ -272,7 +313,7 @@ module _ (s : State) (f : FrameCall) (b : List ℕ) where
       → ReadHere x
       → frameRange f ≡ true
       → FrameInside f b
-      → numbered k l ≡ handedBack (handed lentBytes t)
+      → Sdus.numbered k l ≡ handedBack (handed lentBytes t)
       → Handed k l t
   handed-back {k} {l} {x} {p} {t} e i range inside h =
       let known : SduIn t (f .«pdu_len») = subst (λ (y : Read). SduInside y (f .«pdu_len»)) e (i .inside) in

@@ -1,18 +1,19 @@
--- What is due once a frame came in.
+-- Where a frame's numbers lead: to the row of its SSI, and to the message that it answers.
 use Prim.Native.Nat.{ℕ}
 use mathlib.Core.Bool.{Bool}
-use mathlib.Core.List.{List, [], _∷_, _++_}
 use mathlib.Core.Option.{Option, none, some}
-use Rattle.llc_rule.specs.Messages.{slotBefore}
-use Rattle.llc_calls.specs.declared.FrameCall.{FrameCall}
-use Rattle.llc_state.specs.declared.ScheduledOutAck.{ScheduledOutAck}
+use Rattle.lists.specs.Arrays.{position}
 use Rattle.llc_state.specs.declared.State.{State}
-use Rattle.llc_steps.specs.States.{acksOf}
+use Rattle.llc_steps.specs.Calls.{rowOf}
+use Rattle.llc_steps.specs.States.{messagesOf, rowsOf}
+use Rattle.llc_queues.specs.Queues.{expectedOn}
 
--- The acknowledgement that a frame with an N(S) makes due, and all that are due then.
-abbrev pub ackTo : FrameCall → Bool → ℕ → ScheduledOutAck
-ackTo f ns slot = record { ssi = f .ssi; «ssi_type» = f .«ssi_type»; «carrier_num» = f .carrier; nr = ns; ts = slot }
+-- The place of the row of an SSI, for an N(S); the first where there is no N(S).
+abbrev pub rowPlace : ℕ → Option Bool → State → ℕ
+rowPlace ssi none s = 0
+rowPlace ssi (some ns) s = position (rowOf ssi) (rowsOf s)
 
-abbrev pub dueTo : FrameCall → Option Bool → State → List ScheduledOutAck
-dueTo f none s = acksOf s
-dueTo f (some ns) s = acksOf s ++ (ackTo f ns (slotBefore (s .dltime)) ∷ [])
+-- The place of the message that an N(R) is for; the count where there is no N(R).
+abbrev pub ackPlace : ℕ → ℕ → Option Bool → State → ℕ
+ackPlace ssi carrier none s = s .«n_messages»
+ackPlace ssi carrier (some nr) s = position (expectedOn ssi carrier) (messagesOf s)

@@ -3,9 +3,10 @@ ghost use Prim.Native.Nat.{_≤_};
 ghost use mathlib.Core.Path.{_≡_};
 ghost use lib.ListN.{getD, take};
 ghost use Rattle.lists.specs.Arrays.{position};
+ghost use Rattle.llc_state.specs.States.{newSeq};
 ghost use Rattle.llc_steps.specs.States.{messagesOf};
 ghost use Rattle.llc_steps.specs.Places.{freePlace};
-ghost use Rattle.llc_steps.specs.Calls.{held, waits as waitsIn, rowOf, newSeq};
+ghost use Rattle.llc_steps.specs.Calls.{held, waits as waitsIn, rowOf};
 ghost use Rattle.llc_queues.specs.Queues.{ackOn, expectedOn};
 use llc_state::LinkSendSeq;
 use llc_state::STORE_PLACES;
@@ -50,7 +51,7 @@ pub fn send_seq(rows: [LinkSendSeq; 256], n: usize, i: usize, ssi: u32) -> LinkS
     ensures { λ r. ⌜ r ≡ getD (take n rows) i (newSeq ssi) ⌝ }
 {
     if n <= i {
-        return LinkSendSeq { ssi, vs: false };
+        return LinkSendSeq::new(ssi);
     }
     rows[i]
 }

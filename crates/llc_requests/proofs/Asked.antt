@@ -4,14 +4,13 @@ use native.Mathlib.Omega.{arith}
 use mathlib.Core.Path.{_≡_, _∙_, sym, ap}
 use mathlib.Core.Bool.{Bool, true, false}
 use mathlib.Core.List.{List}
-use borrow.Author.Tests.{lt-ltb, le-ltb, ltb-true, ltb-false}
+use borrow.Author.Tests.{lt-ltb, le-ltb}
 use lib.Dec.{ltb}
-use lib.ListN.{length, getD, length-take}
+use lib.ListN.{getD, length-take}
 use lib.Seq.{length-take-le, getD-take}
 use Rattle.lists.specs.Lists.{Found}
 use Rattle.lists.specs.Arrays.{position, without}
-use Rattle.lists.proofs.Arrays.{position-most, position-any, found-at, found-none, without-none}
-use Rattle.lists.proofs.Choices.{by-test}
+use Rattle.lists.proofs.Arrays.{found-at, found-none, without-none}
 use Rattle.questions.specs.Outcome.{Outcome, accepted, refused}
 use Rattle.llc_pdus.specs.declared.Pdu.the-variants.{BlUdata, BlAck}
 use Rattle.llc_rule.specs.Calls.{Request}
@@ -28,6 +27,7 @@ use Rattle.llc_steps.specs.Answers.{effect, answer, delivered, WithAnyOut}
 use Rattle.llc_steps.specs.Calls.{carrierFor, ackFor, withAcknowledged, withUnacknowledged, withStolen, rowFor, onData, onUnitdata, rowOf}
 use Rattle.llc_steps.specs.States.{acksOf, rowsOf, Kept}
 use Rattle.llc_steps.specs.declared.Answer.{Answer}
+use Rattle.llc_steps.proofs.Rows.{row-by}
 use Rattle.llc_queues.specs.Queues.{ackOn}
 
 -- An effect by the outcome's own name, and the effect of a no.
@@ -44,26 +44,6 @@ pub refuses :
     → x ≡ answer n s 0
     → WithAnyOut x b s b o
 refuses n b e f = as-asked e (record { each = λ out. ap (λ (a : Answer). effect a b out) f })
-
--- Question 7: a row is there or can be added where the search for it ends below 256.
-row-for :
-    (r : Request) (s : State)
-    → length (rowsOf s) ≡ s .«n_rows»
-    → s .«n_rows» ≤ 256
-    → rowFor (r .ssi) s ≡ ltb (position (rowOf (r .ssi)) (rowsOf s)) 256
-unfolding rowFor
-row-for r s long few =
-    let row : ℕ = position (rowOf (r .ssi)) (rowsOf s) in
-    let most : row ≤ length (rowsOf s) = position-most (rowOf (r .ssi)) (rowsOf s) in
-    rw (position-any (rowOf (r .ssi)) (rowsOf s))
-    (by-test (ltb row (length (rowsOf s)))
-    (λ t.
-    let inside = ltb-true row (length (rowsOf s)) t in
-    rw (t, lt-ltb row 256 (omega arith)))
-    (λ f.
-    let behind = ltb-false row (length (rowsOf s)) f in
-    let same : row ≡ s .«n_rows» = omega arith in
-    rw (f, same)))
 
 -- Where nothing is taken out, the acknowledgements due are as they were.
 unused :
@@ -102,9 +82,7 @@ module _ (r : Request) (s : State) (b : List ℕ) where
   -- On the acknowledged path.
   module _ (t : taken ≡ false) (path : onAcknowledgedPath r ≡ true) (long : Lengths s) (ok : stateInRange s ≡ true) where
     asks-7 : rowFor (r .ssi) s ≡ ltb (position (rowOf (r .ssi)) (rowsOf s)) 256
-    asks-7 =
-        let few : s .«n_rows» ≤ 256 = range-tells s ok .head .rows in
-        row-for r s (length-take-le (s .«n_rows») (s .«link_send_seq») (omega (arith, long .rows))) few
+    asks-7 = row-by (r .ssi) s ok long
 
     pub data-7 : {row : ℕ} → row ≡ position (rowOf (r .ssi)) (rowsOf s) → 256 ≤ row → onData r s b ≡ refused 7
     unfolding onData

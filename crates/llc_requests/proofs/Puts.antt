@@ -2,7 +2,7 @@
 use Prim.Native.Nat.{ℕ, _≤_, _<_, _+_, _/_, _%_}
 use native.Mathlib.Omega.{arith}
 use mathlib.Core.Path.{_≡_, _∙_, refl, sym, ap, ap₂}
-use mathlib.Core.Bool.{Bool, true, false, cond, not, _&&_, _||_}
+use mathlib.Core.Bool.{Bool, true, false, cond, _&&_, _||_}
 use mathlib.Core.List.{List, [], _∷_, _++_}
 use borrow.Author.Tests.{leb-true, ltb-true, ltb-false}
 use lib.Dec.{eqb, leb, ltb}
@@ -12,7 +12,6 @@ use Rattle.lists.specs.Lists.{find, others}
 use Rattle.lists.specs.Arrays.{position, without, placed}
 use Rattle.lists.proofs.Arrays.{found-at, found-none, others-without}
 use Rattle.lists.proofs.Choices.{both, by-test}
-use Rattle.lists.proofs.Tables.{first-at, filed-at}
 use Rattle.questions.specs.Outcome.{accepted}
 use Rattle.bits.specs.Bits.{splice}
 use Rattle.llc_pdus.specs.declared.Pdu.{Pdu}
@@ -25,7 +24,7 @@ use Rattle.llc_rule.specs.Records.{allBytes}
 use Rattle.llc_calls.specs.Ranges.{requestRange}
 use Rattle.llc_calls.specs.declared.RequestCall.{RequestCall}
 use Rattle.llc_state.specs.Ranges.{stateInRange}
-use Rattle.llc_state.specs.States.{noAck}
+use Rattle.llc_state.specs.States.{newSeq, noAck}
 use Rattle.llc_state.specs.Receipts.{withPlaces, pendingPlace, takeReceipt}
 use Rattle.llc_state.specs.View.{placeBit}
 use Rattle.llc_state.specs.declared.Entry.{Entry}
@@ -36,11 +35,12 @@ use Rattle.llc_state.specs.declared.State.{State}
 use Rattle.llc_state.proofs.InRange.{range-tells}
 use Rattle.llc_state.proofs.Lengths.{Lengths}
 use Rattle.llc_steps.specs.Answers.{effect, answer, laidOut, WithAnyOut}
-use Rattle.llc_steps.specs.Calls.{entryOf, carrierFor, ackFor, seqOf, withSeq, nextSeq, dataPdu, withAcknowledged, withUnacknowledged, rowOf, newSeq}
+use Rattle.llc_steps.specs.Calls.{entryOf, carrierFor, ackFor, seqOf, withSeq, nextSeq, dataPdu, withAcknowledged, withUnacknowledged, rowOf}
 use Rattle.llc_steps.specs.Places.{freePlace}
 use Rattle.llc_steps.specs.States.{messagesOf, udataOf, acksOf, rowsOf, withMessages, withUdata, withAcks, withRows, Kept}
 use Rattle.llc_steps.specs.declared.Answer.{Answer}
 use Rattle.llc_steps.proofs.Places.{free-place}
+use Rattle.llc_steps.proofs.Rows.{seq-at, placed-seq}
 use Rattle.llc_queues.specs.Queues.{ackOn}
 
 -- What question 5 tells of a request.
@@ -133,7 +133,7 @@ put-acknowledged r s before after row {carrier} {ack} {seq} {pdu} {place} {len} 
     length-take-le (s .«n_acks») (s .«scheduled_out_acks») (omega (arith, long .acks, head .acks))
     in
     let ack-at : ack ≡ position p ds = ack-is ∙ ap (λ (k : ℕ). position (ackOn (r .ssi) k) ds) carrier-is in
-    let seqs : seq ≡ w = seq-is ∙ ap (λ (k : ℕ). getD (rowsOf s) k (newSeq (r .ssi))) row-is ∙ sym (first-at (rowOf (r .ssi)) (newSeq (r .ssi)) (rowsOf s)) in
+    let seqs : seq ≡ w = seq-is ∙ seq-at (r .ssi) (rowsOf s) row-is in
     let bit : seq .vs ≡ w .vs = ap (λ (x : LinkSendSeq). x .vs) seqs in
     let pdus : pdu ≡ dataPdu r (w .vs) (find p ds) =
     pdu-is
@@ -146,7 +146,7 @@ put-acknowledged r s before after row {carrier} {ack} {seq} {pdu} {place} {len} 
     in
     let dues : without ack ds ≡ others (find p ds) ds = ap (λ (k : ℕ). without k ds) ack-at ∙ sym (others-without p ds) in
     let rows : placed (nextSeq (r .ssi) seq) row (rowsOf s) ≡ withSeq (r .ssi) (nextSeq (r .ssi) w) (rowsOf s) =
-    (λ i. placed (nextSeq (r .ssi) (seqs i)) (row-is i) (rowsOf s)) ∙ sym (filed-at (rowOf (r .ssi)) (nextSeq (r .ssi) w) (rowsOf s))
+    placed-seq (r .ssi) (rowsOf s) row-is (ap (nextSeq (r .ssi)) seqs)
     in
     let state : s₄ ≡ withAcknowledged r s before .state =
     s₄-is

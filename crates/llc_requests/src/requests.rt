@@ -93,6 +93,8 @@ fn put_acknowledged(
         LinkSendSeq {
             ssi: q.ssi,
             vs: !ns,
+            has_last_ns: seq.has_last_ns,
+            last_ns: seq.last_ns,
         },
     );
     Answer::accepted(next, 0)

@@ -1,5 +1,5 @@
--- The theorems applied to the instance: two requests that change places, a request that is handed down four times, and a text and an
--- acknowledgement that come with check bits.
+-- The theorems applied to the instance: two requests that change places, a request that is handed down four times, a text and an
+-- acknowledgement that come with check bits, and a repeat.
 use Prim.Native.Nat.{ℕ, zero, suc, _<_}
 use native.Mathlib.Omega.{arith}
 use mathlib.Core.Path.{_≡_, _∙_, refl, ap}
@@ -9,6 +9,7 @@ use mathlib.Core.Option.{some}
 use borrow.Author.Tests.{ltb-true}
 use lib.Dec.{eqb, ltb}
 use lib.ListN.{length, getD, take, drop}
+use Rattle.lists.specs.Lists.{all}
 use Rattle.questions.specs.Outcome.{accepted, number}
 use Rattle.llc_pdus.specs.Received.{wholeFrame}
 use Rattle.llc_pdus.specs.declared.Pdu.the-variants.{BlData, BlAck}
@@ -20,12 +21,14 @@ use Rattle.llc_rule.specs.Runs.{Exchange, exchange, left, run, after}
 use Rattle.llc_rule.specs.Past.{about, belongsTo, doneTo, holders, whose, inPast, nothingYet, andThen, history}
 use Rattle.llc_rule.specs.Seen.{ruleRun, ruled, SeesTheSame}
 use Rattle.llc_rule.specs.Sendings.{requestSpelled, handed, sendings, AtMostFour}
+use Rattle.llc_rule.specs.Repeats.{begins, hears, heardIn, lastFrom, WentUp}
 use Rattle.llc_rule.specs.Texts.{textsIn}
 use Rattle.llc_rule.specs.Claim.{whoseAfter}
 use Rattle.llc_rule.proofs.Swap.{swap}
 use Rattle.llc_rule.proofs.Sendings.{four-run}
 use Rattle.llc_rule.proofs.SendingsByRule.{four-ruled}
-use Rattle.llc_rule.proofs.Texts.{text-up}
+use Rattle.llc_rule.proofs.Repeats.{repeats-run}
+use Rattle.llc_rule.proofs.Texts.{texts-run}
 use Rattle.llc_rule.proofs.Runs.{exchanges}
 use Rattle.llc_rule.proofs.Instance.{first, second, askFirst, askSecond, textOfFirst, ackOfFirst, openingCalls, laterCalls, instanceCalls, turnedCalls, unhindered-instance, unhindered-turned}
 
@@ -122,44 +125,123 @@ pub four-times : eqb (length (sendings 0x22 (run (left asked (step asked askSeco
 unfolding sendings handed doneTo about run after toBytes exchanges openingCalls laterCalls
 four-times = refl
 
--- Two calls of it, put to the link after the first request: a text that comes with its check bits goes up without them, and an
--- acknowledgement with an FCS and nothing else sends nothing up.
+-- A list taken apart at a place.
+parts : {A : Type 0} (k : ℕ) (l : List A) (d : A) → k < length l → l ≡ take k l ++ (getD l k d ∷ drop (suc k) l)
+parts k [] d e = absurd (omega (arith, e))
+parts zero (x ∷ l) d e = refl
+parts {A = A} (suc k) (x ∷ l) d e = ap (λ (m : List A). x ∷ m) (parts k l d (omega (arith, e)))
+
+-- The exchanges of the instance, computed, and the one of a place.
+abbrev nothing : Exchange
+nothing = record { call = []; number = 0; records = [] }
+
+unfoldable pub told : List Exchange
+unfolding run toBytes exchanges openingCalls laterCalls
+told = run new instanceCalls
+
+pub told-is : run new instanceCalls ≡ told
+unfolding told
+told-is = refl
+
+abbrev pub toldAt : ℕ → Exchange
+toldAt k = getD told k nothing
+
+-- It is taken apart at one place, and at one and a later one.
+at-one : (k : ℕ) → ltb k (length told) ≡ true → run new instanceCalls ≡ take k told ++ (toldAt k ∷ drop (suc k) told)
+at-one k e = told-is ∙ parts k told nothing (ltb-true k (length told) e)
+
+at-two :
+    (k j : ℕ)
+    → ltb k (length told) ≡ true
+    → ltb j (length (drop (suc k) told)) ≡ true
+    → run new instanceCalls
+    ≡ take k told ++ (toldAt k ∷ (take j (drop (suc k) told) ++ (getD (drop (suc k) told) j nothing ∷ drop (suc j) (drop (suc k) told))))
+at-two k j e g =
+    at-one k e
+    ∙ ap (λ (l : List Exchange). take k told ++ (toldAt k ∷ l)) (parts j (drop (suc k) told) nothing (ltb-true j (length (drop (suc k) told)) g))
+
+-- A text that comes with its check bits goes up without them, and an acknowledgement with an FCS and nothing else sends nothing
+-- up.
 abbrev pub text : List ℕ
 text = 1 ∷ 0 ∷ 0 ∷ 1 ∷ 1 ∷ 1 ∷ 0 ∷ []
 
 abbrev frameOf : List ℕ → Frame
 frameOf c = frameIn (drop 3 c)
 
-pub text-spelled : parsed textOfFirst ≡ accepted (frame (frameOf textOfFirst))
-unfolding exchanges toBytes
+pub text-spelled : parsed (toldAt 8 .call) ≡ accepted (frame (frameOf textOfFirst))
+unfolding told
 text-spelled = refl
 
 pub text-framed : frameOf textOfFirst .pdu ≡ wholeFrame (BlData true true) text
 unfolding exchanges toBytes wholeFrame
 text-framed = refl
 
-pub text-accepted : number (step asked textOfFirst) ≡ 0
-unfolding exchanges toBytes openingCalls after
+pub text-accepted : toldAt 8 .number ≡ 0
+unfolding told
 text-accepted = refl
 
-pub text-instance : textsIn (exchange textOfFirst (step asked textOfFirst) .records) ≡ text ∷ []
+pub text-instance : textsIn (toldAt 8 .records) ≡ text ∷ []
+unfolding told lastFrom heardIn
 text-instance =
-    text-up asked textOfFirst .up (frameOf textOfFirst) (BlData true true) text text-spelled text-framed text-accepted
+    texts-run instanceCalls .each (take 8 told) (toldAt 8) (drop 9 told) (at-one 8 refl) .up
+    (frameOf textOfFirst) (BlData true true) text text-spelled text-framed text-accepted
 
-pub ack-spelled : parsed ackOfFirst ≡ accepted (frame (frameOf ackOfFirst))
-unfolding exchanges toBytes
+pub ack-spelled : parsed (toldAt 23 .call) ≡ accepted (frame (frameOf ackOfFirst))
+unfolding told
 ack-spelled = refl
 
 pub ack-framed : frameOf ackOfFirst .pdu ≡ wholeFrame (BlAck true false) []
 unfolding exchanges toBytes wholeFrame
 ack-framed = refl
 
-pub ack-accepted : number (step asked ackOfFirst) ≡ 0
-unfolding exchanges toBytes openingCalls after
+pub ack-accepted : toldAt 23 .number ≡ 0
+unfolding told
 ack-accepted = refl
 
-pub ack-instance : textsIn (exchange ackOfFirst (step asked ackOfFirst) .records) ≡ []
-ack-instance = text-up asked ackOfFirst .up (frameOf ackOfFirst) (BlAck true false) [] ack-spelled ack-framed ack-accepted
+pub ack-instance : textsIn (toldAt 23 .records) ≡ []
+unfolding told
+ack-instance =
+    texts-run instanceCalls .each (take 23 told) (toldAt 23) (drop 24 told) (at-one 23 refl) .up
+    (frameOf ackOfFirst) (BlAck true false) [] ack-spelled ack-framed ack-accepted
+
+-- The text is the first since the start, and goes up; its repeat does not, with a call of the other address between; the next has
+-- another N(S), and goes up though it is empty.
+abbrev pub again : List ℕ
+again = 1 ∷ 0 ∷ 1 ∷ 1 ∷ 0 ∷ []
+
+pub begun : heardIn (toldAt 1) ≡ begins
+unfolding told heardIn
+begun = refl
+
+pub text-heard : heardIn (toldAt 8) ≡ hears first true text
+unfolding told heardIn
+text-heard = refl
+
+pub repeat-heard : heardIn (toldAt 10) ≡ hears first true again
+unfolding told heardIn
+repeat-heard = refl
+
+pub new-heard : heardIn (toldAt 11) ≡ hears first false []
+unfolding told heardIn
+new-heard = refl
+
+pub text-first : WentUp first text (toldAt 8 .records)
+unfolding told heardIn all
+text-first =
+    repeats-run instanceCalls .first (take 1 told) (toldAt 1) (take 6 (drop 2 told)) (toldAt 8) (drop 9 told) first true text
+    (at-two 1 6 refl refl) begun refl text-heard
+
+pub repeat-stopped : toldAt 10 .records ≡ []
+unfolding told heardIn all
+repeat-stopped =
+    repeats-run instanceCalls .same (take 8 told) (toldAt 8) (take 1 (drop 9 told)) (toldAt 10) (drop 11 told) first true text again
+    (at-two 8 1 refl refl) text-heard refl repeat-heard
+
+pub new-up : WentUp first [] (toldAt 11 .records)
+unfolding told heardIn all
+new-up =
+    repeats-run instanceCalls .other (take 10 told) (toldAt 10) [] (toldAt 11) (drop 12 told) first true again []
+    (at-two 10 0 refl refl) repeat-heard refl new-heard
 
 -- What the rule answers on the past of the second address, with all opened that it computes by.
 unfoldable pub answers : List Exchange
@@ -172,16 +254,7 @@ pub answers-are : ruled second (run new instanceCalls) ≡ answers
 unfolding answers
 answers-are = refl
 
--- A list taken apart at a place.
-parts : {A : Type 0} (k : ℕ) (l : List A) (d : A) → k < length l → l ≡ take k l ++ (getD l k d ∷ drop (suc k) l)
-parts k [] d e = absurd (omega (arith, e))
-parts zero (x ∷ l) d e = refl
-parts {A = A} (suc k) (x ∷ l) d e = ap (λ (m : List A). x ∷ m) (parts k l d (omega (arith, e)))
-
 -- Its fourth call is the request, which the rule accepts.
-abbrev nothing : Exchange
-nothing = record { call = []; number = 0; records = [] }
-
 unfoldable pub fourth : Exchange
 unfolding answers
 fourth = getD answers 3 nothing

@@ -27,7 +27,7 @@ use Rattle.llc_rule.specs.Link.{Link, new}
 use Rattle.llc_rule.specs.Step.{retransmissions, firstSendings, onTickEnd, step}
 use Rattle.llc_rule.specs.Runs.{left, given, Exchange, run}
 use Rattle.llc_rule.specs.Sizes.{FitsMask, FitsBits, FitsSent, FitsIndication, Fits}
-use Rattle.llc_rule.proofs.Paths.{Heard, Paths, step-law}
+use Rattle.llc_rule.proofs.Paths.{Heard, Paths, sent-up, step-law}
 use Rattle.llc_rule.proofs.Ranges.{request-fields, frame-fields, type-at-most, frame-lengths, request-lengths}
 use Rattle.llc_rule.proofs.Held.{AllHeld, Brings, held-step, passed-retransmissions, passed-firsts}
 use Rattle.llc_rule.proofs.Values.{IsByte, RequestFits, FrameFits, CallFits, CallFitsIn, parsed-fits}
@@ -195,7 +195,7 @@ fits-paths l h =
       tickEnd = λ b. tick-end-fits l h;
       acknowledged = λ r a b. tt;
       unacknowledged = λ s r link p used a b. tt;
-      heard = λ f r a b. heard-fits f r l a b;
+      heard = λ f r a b. sent-up (All Fits) f r l tt (heard-fits f r l a b);
       reported = λ i how a b. tt;
       released = λ i a b. tt;
     }

@@ -18,9 +18,9 @@ use Rattle.llc_rule.specs.Calls.{Call, start, tickStart, tickEnd, reques
 use Rattle.llc_rule.specs.Ranges.{requestInRange, frameInRange}
 use Rattle.llc_rule.specs.Records.{Record, acknowledged, Sent}
 use Rattle.llc_rule.specs.Messages.{Message, Due, Place, placeAt, taken?, reported, hasTime, overdue, slotBefore, carrierOf, sentOf}
-use Rattle.llc_rule.specs.Keeps.{dueNow, withReceipts}
+use Rattle.llc_rule.specs.Keeps.{withReceipts}
 use Rattle.llc_rule.specs.Link.{Link, startedWith}
-use Rattle.llc_rule.specs.Step.{dueFor, withAcknowledged, withUnacknowledged, withDue, awaiting, fits, answeredBy, answered, stay, timed, agedBy, retransmission, Sending, firstSending, retransmissions, firstSendings, onTickEnd, step}
+use Rattle.llc_rule.specs.Step.{dueFor, withAcknowledged, withUnacknowledged, numbered, awaiting, fits, answeredBy, answered, stay, timed, agedBy, retransmission, Sending, firstSending, retransmissions, firstSendings, onTickEnd, step}
 use Rattle.llc_rule.specs.Runs.{left}
 use Rattle.llc_rule.proofs.Paths.{Paths, step-law}
 
@@ -152,13 +152,12 @@ module _ (C : ℕ → Type 0) (P : Sent → Type 0) (D : Due → Type 0) where
     answered-held f (some nr) = answered-by-held nr _ (awaiting f l) (find-by _ (l .acknowledged))
 
   module _ (l : Link) (h : AllHeld l) where
-    with-due-held :
+    numbered-held :
         (f : Frame) (ns : Option Bool)
         → ((ns : Bool) (slot : ℕ) → D (record { ssi = f .ssi; type = f .type; carrier = f .carrier; nr = ns; slot = slot }))
-        → AllHeld (dueNow l (withDue f ns l))
-    with-due-held f none b =
-        record { carrier = h .carrier; acknowledged = h .acknowledged; unacknowledged = h .unacknowledged; due = h .due }
-    with-due-held f (some ns) b =
+        → AllHeld (numbered f ns l)
+    numbered-held f none b = h
+    numbered-held f (some ns) b =
         record {
           carrier = h .carrier;
           acknowledged = h .acknowledged;
@@ -209,7 +208,7 @@ module _ (C : ℕ → Type 0) (P : Sent → Type 0) (D : Due → Type 0) where
               };
           heard =
               λ f r a b.
-              answered-held _ (with-due-held f (nsOf (r .header)) (b (a .range))) f (nrOf (r .header));
+              answered-held _ (numbered-held f (nsOf (r .header)) (b (a .range))) f (nrOf (r .header));
           reported = λ i how a b. receipts-held _;
           released = λ i a b. receipts-held _;
         }

@@ -1,5 +1,5 @@
--- A run that meets the hypotheses of the theorems: two addresses, records of all five kinds, a message moved to the front, one
--- that is acknowledged and one that is handed down four times and lost, releases, a receipt that serves again, refused calls, and
+-- A run that meets the hypotheses of the theorems: two addresses, records of all five kinds, a repeat, a message moved to the
+-- front, one that is acknowledged and one that is handed down four times and lost, releases, a receipt that serves again, refused calls, and
 -- no call that is hindered.
 use Prim.Native.Nat.{ℕ}
 use mathlib.Core.Path.{_≡_, refl}
@@ -45,9 +45,16 @@ askFirst = hex 32 0x24001d0a3e9101012a6b102132435465768798a9bacb040d1102c5d6000c
 abbrev pub askSecond : List ℕ
 askSecond = hex 33 0x24001e5bc72d01000000f1e2d3c4b5a69788796a5b4c000022033d2e1f0009a580
 
--- A text with an FCS from the first address, and an acknowledgement with an FCS and nothing else.
+-- A text with an FCS from the first address, a repeat of it with another PDU, type, carrier and SDU, an empty one with another
+-- N(S), and an acknowledgement with an FCS and nothing else.
 abbrev pub textOfFirst : List ℕ
 textOfFirst = hex 29 0x26001a0a3e91013c4d5e6f708192a3b4c503d6e7f8002c5ce2f0c8fd80
+
+abbrev pub repeatOfFirst : List ℕ
+repeatOfFirst = hex 22 0x2600130a3e91024d3ce1d2c3b4a596877800000b06c0
+
+abbrev pub newOfFirst : List ℕ
+newOfFirst = hex 21 0x2600120a3e91012b6ac1d2e3f40516273800000510
 
 abbrev pub ackOfFirst : List ℕ
 ackOfFirst = hex 25 0x2600160a3e91012a6b4e5f60718293a4b50000257000000000
@@ -56,15 +63,19 @@ ackOfFirst = hex 25 0x2600160a3e91012a6b4e5f60718293a4b50000257000000000
 unfoldable pub following : List ℕ → List ℕ → List Told
 following one other =
     -- A report for a message that waits; an unacknowledged message; an SDU for each address, of which one has an FCS and
-    -- asks for a reply.
+    -- asks for a reply; its repeat, of which nothing goes up, and a new one. Each of the three is acknowledged.
     hex 5 0x2700021101 gets 15
     ∷ hex 31 0x25001c0a3e9102017c8d0e1f2031425364758697a8b9050b3302cadb0007ca gets 0
     ∷ textOfFirst gets 0
     and hex 44 0x010001040200030a3e91030001010500045e6f708106000492a3b4c50b0003d6e7f80d0001010c000300079c
     ∷ hex 23 0x2600145bc72d011a2b3c4d5e6f708192a301b4000d2d28 gets 0
     and hex 43 0x010001050200035bc72d0300010105000400000000060004708192a30b0001b40d0001000c00040009d280
+    ∷ repeatOfFirst gets 0
+    ∷ newOfFirst gets 0 and hex 35 0x010001040200030a3e9103000101050004c1d2e3f4060004051627380b00000d000100
     ∷ hex 3 0x230000 gets 0 and one and other
     and hex 54 0x010001020200030a3e91030001010400023c4d05000400000003060004000000000700040000000008000101090001040c0003000538
+    and hex 54 0x010001020200030a3e91030001020400024d3c05000400000003060004000000000700040000000008000101090001040c0003000538
+    and hex 54 0x010001020200030a3e91030001010400022b6a05000400000003060004000000000700040000000008000101090001040c0003000530
     and hex 64 0x010001030200030a3e91030001020400027c8d0500040e1f2031060004425364750700048697a8b9080001010900010b0a0001330b0002cadb0c0004000b2ca0
     -- A release of a receipt whose message is held. Both are reported transmitted, and the next tick end notes it.
     ∷ hex 4 0x28000111 gets 16

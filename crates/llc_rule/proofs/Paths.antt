@@ -10,7 +10,7 @@ use lib.Dec.{eqb, leb}
 use lib.ListN.{length, getD, drop, set}
 use Rattle.lists.specs.Lists.{all, any, among, Found, nothing, first, others}
 use Rattle.lists.proofs.Lists.{any-append, find-by, TakenOut, found-out}
-use Rattle.lists.proofs.Choices.{by-test, by-choice, both}
+use Rattle.lists.proofs.Choices.{by-test, by-choice, either, both}
 use Rattle.questions.specs.Outcome.{Outcome, accepted, refused, number}
 use Rattle.questions.proofs.Asked.{by-question}
 use Rattle.tdma_time.specs.declared.TdmaTime.{TdmaTime}
@@ -24,9 +24,9 @@ use Rattle.llc_rule.specs.Records.{Record}
 use Rattle.llc_rule.specs.Upward.{upward}
 use Rattle.llc_rule.specs.Messages.{Due, free, mark, markOf}
 use Rattle.llc_rule.specs.Done.{Done, done}
-use Rattle.llc_rule.specs.Keeps.{withTime, dueNow, withReceipts}
+use Rattle.llc_rule.specs.Keeps.{withTime, withReceipts}
 use Rattle.llc_rule.specs.Link.{Link, startedWith}
-use Rattle.llc_rule.specs.Step.{isDueFor, dueFor, receiptFree, rowFor, acknowledgedPlace, unacknowledgedPlace, onAcknowledgedPath, withAcknowledged, withUnacknowledged, withStolen, onData, onUnitdata, dueRoom, withDue, mayFinish, answered, onReceived, onFrame, reportable, onReport, releasable, onRelease, onTickEnd, onReceipt, act, called, step}
+use Rattle.llc_rule.specs.Step.{isDueFor, dueFor, receiptFree, rowFor, acknowledgedPlace, unacknowledgedPlace, onAcknowledgedPath, withAcknowledged, withUnacknowledged, withStolen, onData, onUnitdata, rowForFrame, dueRoom, numbered, isRepeat, sentUp, mayFinish, answered, onReceived, onFrame, reportable, onReport, releasable, onRelease, onTickEnd, onReceipt, act, called, step}
 
 -- The numbers of refusals ---------------------------------------------------------------------------------------------------
 
@@ -42,8 +42,11 @@ ofRequests = 6 ∷ 7 ∷ 8 ∷ []
 abbrev ofReading : List ℕ
 ofReading = 9 ∷ 10 ∷ 11 ∷ 12 ∷ []
 
+abbrev ofHeard : List ℕ
+ofHeard = 7 ∷ 13 ∷ 14 ∷ []
+
 abbrev ofFrames : List ℕ
-ofFrames = ofReading ++ (13 ∷ 14 ∷ [])
+ofFrames = ofReading ++ ofHeard
 
 abbrev ofReceipts : List ℕ
 ofReceipts = 15 ∷ 16 ∷ []
@@ -111,7 +114,7 @@ Asked ns (refused n) = among n ns ≡ true
 
 of-frames : (n : ℕ) → among n ofReading ≡ true → among n ofFrames ≡ true
 of-frames n e =
-    any-append (λ (k : ℕ). eqb k n) ofReading (13 ∷ 14 ∷ []) ∙ ap (λ (b : Bool). b || any (λ (k : ℕ). eqb k n) (13 ∷ 14 ∷ [])) e
+    any-append (λ (k : ℕ). eqb k n) ofReading ofHeard ∙ ap (λ (b : Bool). b || any (λ (k : ℕ). eqb k n) ofHeard) e
 
 reading-asked : (b : List ℕ) → Asked ofReading (reading b)
 unfolding reading any
@@ -151,6 +154,7 @@ pub record Unacknowledged (r : Request) (k : ℕ) (f : Found Due) (l : Link) : T
 pub record Heard (f : Frame) (r : Received) (l : Link) : Type 0 where
   pub range : frameInRange f ≡ true
   pub apart : received (f .pdu) ≡ accepted r
+  pub row : rowForFrame f (nsOf (r .header)) l ≡ true
   pub room : dueRoom (nsOf (r .header)) l ≡ true
   pub may : mayFinish f (nrOf (r .header)) l ≡ true
 
@@ -161,7 +165,12 @@ pub record Receipted (i : ℕ) (question : Bool) : Type 0 where
 
 -- The link after a frame that was heard.
 abbrev pub afterHeard : Frame → Received → Link → Link
-afterHeard f r l = answered f (nrOf (r .header)) (dueNow l (withDue f (nsOf (r .header)) l))
+afterHeard f r l = answered f (nrOf (r .header)) (numbered f (nsOf (r .header)) l)
+
+-- What goes up of it: nothing, or what goes up of its SDU.
+pub sent-up :
+    (P : List Record → Type 0) (f : Frame) (r : Received) (l : Link) → P [] → P (upward f (r .header) (r .sdu)) → P (sentUp f r l)
+sent-up P f r l = either P (isRepeat f (nsOf (r .header)) l)
 
 -- What holds on each path, of the call, the link after it and its records.
 pub record Paths (l : Link) (P : Call → Link → List Record → Type 0) : Type 0 where
@@ -176,7 +185,7 @@ pub record Paths (l : Link) (P : Call → Link → List Record → Type 0) : Typ
   pub heard :
       (f : Frame) (r : Received)
       → Heard f r l
-      → P (frame f) (afterHeard f r l) (upward f (r .header) (r .sdu))
+      → P (frame f) (afterHeard f r l) (sentUp f r l)
   pub reported :
       (i how : ℕ)
       → Receipted i (reportable i l)
@@ -253,9 +262,10 @@ module _ (l : Link) (P : Call → Link → List Record → Type 0) (paths : Path
   unfolding onReceived any
   heard-law f Q if-refused if-accepted range (refused n) e a = if-refused n (of-frames n a)
   heard-law f Q if-refused if-accepted range (accepted r) e a =
+      by-question Q 7 (rowForFrame f (nsOf (r .header)) l) (if-refused 7 refl) λ row.
       by-question Q 13 (dueRoom (nsOf (r .header)) l) (if-refused 13 refl) λ room.
       by-question Q 14 (mayFinish f (nrOf (r .header)) l) (if-refused 14 refl) λ may.
-      if-accepted _ (paths .heard f r (record { range = range; apart = e; room = room; may = may }))
+      if-accepted _ (paths .heard f r (record { range = range; apart = e; row = row; room = room; may = may }))
 
   action-law :
       (i : ℕ) (a : Action) (Q : Outcome (Done Link) → Type 0)

@@ -26,7 +26,7 @@ use Rattle.llc_rule.specs.Step.{timed, stay, resend, leave, agedBy, retr
 use Rattle.llc_rule.specs.Runs.{left, given, after}
 use Rattle.llc_rule.specs.Sound.{Within}
 use Rattle.llc_rule.specs.Sizes.{SmallSent, Small}
-use Rattle.llc_rule.proofs.Paths.{Heard, Paths, step-law}
+use Rattle.llc_rule.proofs.Paths.{Heard, Paths, sent-up, step-law}
 use Rattle.llc_rule.proofs.Records.{mostSent, small-sent, small-reply, small-indication}
 use Rattle.llc_rule.proofs.Ranges.{frame-lengths, request-lengths}
 use Rattle.llc_rule.proofs.Held.{passed-retransmissions, passed-firsts, AllHeld, Brings, held-step}
@@ -212,7 +212,9 @@ room-paths l w h =
       tickEnd = tick-end-room l w h;
       acknowledged = λ r a. no-records;
       unacknowledged = λ s r link p used a. no-records;
-      heard = λ f r a. heard-room f r l a;
+      heard =
+          λ f r a.
+          sent-up (λ (rs : List Record). length (allBytes rs) ≤ outputBytes) f r l no-records (heard-room f r l a);
       reported = λ i how a. no-records;
       released = λ i a. no-records;
     }

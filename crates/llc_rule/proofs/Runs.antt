@@ -10,6 +10,7 @@ pub mod Ranges
 pub mod Orders
 pub mod Checks
 pub mod CheckBits
+pub mod Repeats
 use Prim.Native.Nat.{ℕ, zero, suc}
 use mathlib.Core.Bool.{Bool, true, false, _&&_}
 use mathlib.Core.List.{List, [], _∷_, _++_, map}

@@ -19,7 +19,7 @@ use Rattle.llc_rule.specs.Records.{Record}
 use Rattle.llc_rule.specs.Done.{done}
 use Rattle.llc_rule.specs.Messages.{noReceipts, markOf}
 use Rattle.llc_rule.specs.Link.{Link, startedWith}
-use Rattle.llc_rule.specs.Step.{receiptFree, rowFor, acknowledgedPlace, unacknowledgedPlace, onAcknowledgedPath, withUnacknowledged, dueRoom, onData, onUnitdata, onReceived, onFrame, act}
+use Rattle.llc_rule.specs.Step.{receiptFree, rowFor, acknowledgedPlace, unacknowledgedPlace, onAcknowledgedPath, withUnacknowledged, rowForFrame, dueRoom, onData, onUnitdata, onReceived, onFrame, act}
 use Rattle.llc_rule.specs.Rule.{Own, afterStart, afterData, afterUnitdata, afterReceived, afterFrame, does}
 use Rattle.llc_rule.specs.Past.{aboutCall, Holders, nobody, holding, isHolder, heldAfter, holder's, whoseOf, concerns, isTickEnd}
 use Rattle.llc_rule.specs.Seen.{hindrances}
@@ -28,7 +28,7 @@ use Rattle.llc_rule.proofs.Paths.{Paths}
 use Rattle.llc_rule.proofs.Own.{ofSsi, blankFrom, own, seenAs}
 use Rattle.llc_rule.proofs.SeenRequests.{afterDataLink, data-own, unitdata-own, acknowledged-other, unacknowledged-other}
 use Rattle.llc_rule.proofs.SeenReceipts.{report-own, release-own, receipts-other, release-other}
-use Rattle.llc_rule.proofs.SeenFrames.{received-own, heard-unseen, upward-other}
+use Rattle.llc_rule.proofs.SeenFrames.{received-own, heard-unseen, sent-up-other}
 use Rattle.llc_rule.proofs.SeenTickEnd.{tick-end-own}
 use Rattle.llc_rule.proofs.SoundRequests.{receipt-within}
 
@@ -116,7 +116,8 @@ frame-by a h l f (accepted r) e ok u =
     (λ (x : ℕ).
     afterReceived f (accepted r) (own x h l) ≡ seenAs (own x h) (λ (rs : List Record). rs) (onReceived f (accepted r) l))
     e
-    (received-own f h l ok r (passed 13 (dueRoom (nsOf (r .header)) l) _ refl u .0))
+    (let seven = passed 7 (rowForFrame f (nsOf (r .header)) l) _ refl u in
+    received-own f h l r ok (seven .0) (passed 13 (dueRoom (nsOf (r .header)) l) _ refl (seven .1) .0))
 
 -- Whose a call by receipt is.
 holder-is : (a : ℕ) (w : Option ℕ) → concerns a (holder's w) ≡ true → w ≡ some a
@@ -176,7 +177,7 @@ other-paths a h l ok =
           λ s r link p used k w.
           silently a h _ l _
           (unacknowledged-other a r h l link p used k w (receipt-in h l (r .receipt) ok (receipt-within r (k .range))));
-      heard = λ f r k w. record { same = heard-unseen a f h l ok w r; silent = upward-other a f h l ok w (r .header) (r .sdu) };
+      heard = λ f r k w. record { same = heard-unseen a f h l w r k ok; silent = sent-up-other a f h l ok w r };
       reported = λ i how k w. silently a h h l _ (receipts-other a i h l (holder-not a (h i) w) (markOf how));
       released = λ i k w. silently a h _ l _ (release-other a i h l (holder-not a (h i) w) (receipt-in h l i ok (k .receipt)));
     }

@@ -2,7 +2,7 @@
 use Prim.Native.Nat.{ℕ}
 use mathlib.Core.Path.{_≡_, _∙_, refl, sym, ap, subst}
 use mathlib.Core.Bool.{Bool, true, false, cond, _&&_, false≢true}
-use mathlib.Core.List.{List, [], _∷_, append-nil}
+use mathlib.Core.List.{List, [], _∷_, _++_, append-nil}
 use mathlib.Core.Option.{Option, none, some}
 use borrow.Author.Tests.{eq-eqb, eqb-true, not-true}
 use lib.Dec.{eqb}
@@ -18,15 +18,16 @@ use Rattle.llc_pdus.specs.Received.{Received}
 use Rattle.llc_rule.specs.Calls.{Frame}
 use Rattle.llc_rule.specs.Records.{Record, dataUp, ssiOf}
 use Rattle.llc_rule.specs.Upward.{indication, unlessEmpty, upward}
-use Rattle.llc_rule.specs.Messages.{Message, Due, Place, mark, slotBefore}
-use Rattle.llc_rule.specs.Keeps.{acknowledgedNow, dueNow, withReceipts}
-use Rattle.llc_rule.specs.Link.{Link}
-use Rattle.llc_rule.specs.Step.{dueRoom, withDue, awaiting, fits, finishable, mayFinish, answeredBy, answered, onReceived}
-use Rattle.llc_rule.specs.Rule.{Own, madeDue, theOne, oneTransmitted, canFinish, finished, heard, afterReceived}
+use Rattle.llc_rule.specs.Messages.{Message, Place, mark, slotBefore}
+use Rattle.llc_rule.specs.Keeps.{withLast, acknowledgedNow, withReceipts}
+use Rattle.llc_rule.specs.Link.{Link, numbersOf}
+use Rattle.llc_rule.specs.Step.{rowForFrame, dueRoom, withDue, numbered, isLast, isRepeat, sentUp, awaiting, fits, finishable, mayFinish, answeredBy, answered, onReceived}
+use Rattle.llc_rule.specs.Rule.{Own, noting, unlessRepeated, theOne, oneTransmitted, canFinish, finished, heard, afterReceived}
 use Rattle.llc_rule.specs.Past.{Holders, isHolder}
 use Rattle.llc_rule.specs.Sound.{Owned, ofAddress, oneAhead, Sound}
-use Rattle.llc_rule.proofs.Paths.{afterHeard}
-use Rattle.llc_rule.proofs.Own.{dueTo, blank, own, seenAs, keepFound, find-keep, keep-others, place-own, own-parts, blank-mark, blank-mark-other}
+use Rattle.llc_rule.proofs.SoundFrames.{sound-numbered}
+use Rattle.llc_rule.proofs.Paths.{Heard, afterHeard, sent-up}
+use Rattle.llc_rule.proofs.Own.{dueTo, blank, own, seenAs, keepFound, find-keep, keep-others, place-own, own-parts, blank-mark, blank-mark-other, numbers-own, numbers-other}
 
 none-found : {A : Type 0} (p : A → Bool) (l : List A) → any p l ≡ false → find p l ≡ nothing
 unfolding find any
@@ -121,6 +122,14 @@ looked-at f (first n xs) (first m ms) e =
     subst (Looked f (first n xs)) g (here n xs (ap (onCarrier f) same ∙ t)))
     (λ t. absurd (false≢true (ap isFound (sym (e ∙ if-false (first m ms) nothing t)))))
 
+-- A repeat is one for the link and for the rule.
+repeat-by : (ns : Bool) (last : Option Bool) (up : List Record) → unlessRepeated last (some ns) up ≡ cond (isLast ns last) [] up
+repeat-by ns none up = refl
+repeat-by true (some true) up = refl
+repeat-by false (some true) up = refl
+repeat-by true (some false) up = refl
+repeat-by false (some false) up = refl
+
 -- A frame to an address, on a link that is sound.
 module _ (f : Frame) (h : Holders) (l : Link) (ok : Sound h l) where
   -- The one that the link awaits is the one under way, if it is on the frame's carrier.
@@ -163,84 +172,103 @@ module _ (f : Frame) (h : Holders) (l : Link) (ok : Sound h l) where
   can-own none = refl
   can-own (some nr) = can-finish nr (awaiting f l) (theOne (own (f .ssi) h l)) refl looked
 
-  -- The link and what the rule keeps, with other acknowledged messages, acknowledgements due and receipts.
-  abbrev linkWith : List Message → List Due → List Place → Link
-  linkWith ms ds ps = withReceipts (dueNow (acknowledgedNow l ms) ds) ps
+  -- The link and what the rule keeps, with other acknowledged messages and receipts.
+  abbrev linkWith : List Message → List Place → Link
+  linkWith ms ps = withReceipts (acknowledgedNow l ms) ps
 
-  abbrev ownWith : List Message → List Due → List Place → Own
-  ownWith ms ds ps = withReceipts (dueNow (acknowledgedNow (own (f .ssi) h l) ms) ds) ps
+  abbrev ownWith : List Message → List Place → Own
+  ownWith ms ps = withReceipts (acknowledgedNow (own (f .ssi) h l) ms) ps
 
-  own-with : (ms : List Message) (ds : List Due) (ps : List Place) (ns : List Message) (qs : List Place) → ofAddress (f .ssi) ms ≡ ns → blank (f .ssi) h ps ≡ qs
-      → own (f .ssi) h (linkWith ms ds ps) ≡ ownWith ns (keep (dueTo (f .ssi)) ds) qs
+  own-with :
+      (ms : List Message) (ps : List Place) (ns : List Message) (qs : List Place)
+      → ofAddress (f .ssi) ms ≡ ns
+      → blank (f .ssi) h ps ≡ qs
+      → own (f .ssi) h (linkWith ms ps) ≡ ownWith ns qs
   unfolding own
-  own-with ms ds ps ns qs e g =
-      own-parts (f .ssi) h h l (linkWith ms ds ps) refl refl e refl refl g
+  own-with ms ps ns qs e g = own-parts (f .ssi) h h l (linkWith ms ps) refl refl e refl refl g
 
-  -- The queues after it, with acknowledgements due.
+  -- The queues after it.
   finish :
-      (nr : Bool) (ds : List Due) (x t : Found Message)
+      (nr : Bool) (x t : Found Message)
       → awaiting f l ≡ x
       → theOne (own (f .ssi) h l) ≡ t
       → Looked f x t
-      → own (f .ssi) h (answeredBy nr x (dueNow l ds)) ≡ finished f nr t (dueNow (own (f .ssi) h l) (keep (dueTo (f .ssi)) ds))
+      → own (f .ssi) h (answeredBy nr x l) ≡ finished f nr t (own (f .ssi) h l)
   unfolding own answeredBy theOne
-  finish nr ds x t e g no-one = refl
-  finish nr ds x t e g (elsewhere m ms c) = rw c
-  finish nr ds x t e g (here m xs c) =
+  finish nr x t e g no-one = refl
+  finish nr x t e g (elsewhere m ms c) = rw c
+  finish nr x t e g (here m xs c) =
       let a : ℕ = f .ssi in
       let i : ℕ = m .sent .receipt in
-      let ks : List Due = keep (dueTo a) ds in
       let was : ofAddress a (m ∷ xs) ≡ ofAddress a (l .acknowledged) =
       keep-yes (toSsi f) m xs (to-ssi m xs e) ∙ sym (ahead-first (ofAddress a (l .acknowledged)) (ok .ahead a) m (keep (toSsi f) xs) g)
       in
-      let gone : Link = linkWith xs ds (mark Marks.acknowledged i (l .receipts)) in
-      let moved : Link = linkWith (m ∷ xs) ds (l .receipts) in
-      let gone-own : Own = ownWith (ofAddress a xs) ks (mark Marks.acknowledged i (blank a h (l .receipts))) in
-      let same-own : Own = ownWith (ofAddress a (l .acknowledged)) ks (blank a h (l .receipts)) in
+      let gone : Link = linkWith xs (mark Marks.acknowledged i (l .receipts)) in
+      let moved : Link = linkWith (m ∷ xs) (l .receipts) in
+      let gone-own : Own = ownWith (ofAddress a xs) (mark Marks.acknowledged i (blank a h (l .receipts))) in
+      let same-own : Own = ownWith (ofAddress a (l .acknowledged)) (blank a h (l .receipts)) in
       by-test (fits nr m)
       (λ u.
       ap (own a h) (if-true gone moved u)
-      ∙ own-with xs ds (mark Marks.acknowledged i (l .receipts)) (ofAddress a xs) (mark Marks.acknowledged i (blank a h (l .receipts))) refl
+      ∙ own-with xs (mark Marks.acknowledged i (l .receipts)) (ofAddress a xs) (mark Marks.acknowledged i (blank a h (l .receipts))) refl
       (blank-mark a h Marks.acknowledged i (l .receipts) (is-holder m xs e))
       ∙ sym (if-true gone-own same-own (and-true c u)))
       (λ u.
       ap (own a h) (if-false gone moved u)
-      ∙ own-with (m ∷ xs) ds (l .receipts) (ofAddress a (l .acknowledged)) (blank a h (l .receipts)) was refl
+      ∙ own-with (m ∷ xs) (l .receipts) (ofAddress a (l .acknowledged)) (blank a h (l .receipts)) was refl
       ∙ sym (if-false gone-own same-own (and-false (onCarrier f m) u)))
 
-  heard-own : (x : Option Bool) (ds : List Due) → own (f .ssi) h (answered f x (dueNow l ds)) ≡ heard f x (dueNow (own (f .ssi) h l) (keep (dueTo (f .ssi)) ds))
-  unfolding own awaiting theOne
-  heard-own none ds = refl
-  heard-own (some nr) ds = finish nr ds (awaiting f l) (theOne (own (f .ssi) h l)) refl refl looked
+  heard-own : (x : Option Bool) → own (f .ssi) h (answered f x l) ≡ heard f x (own (f .ssi) h l)
+  unfolding awaiting theOne
+  heard-own none = refl
+  heard-own (some nr) = finish nr (awaiting f l) (theOne (own (f .ssi) h l)) refl refl looked
 
-  made-due : (x : Option Bool) → keep (dueTo (f .ssi)) (withDue f x l) ≡ madeDue f x (own (f .ssi) h l)
-  unfolding own keep
-  made-due none = refl
-  made-due (some ns) =
+-- What N(S) does, as the frame's address has it.
+module _ (f : Frame) (h : Holders) (l : Link) where
+  made-due :
+      (ns : Bool)
+      → keep (dueTo (f .ssi)) (withDue f ns l)
+      ≡ keep (dueTo (f .ssi)) (l .due)
+      ++ (record { ssi = f .ssi; type = f .type; carrier = f .carrier; nr = ns; slot = slotBefore (l .time) } ∷ [])
+  unfolding keep
+  made-due ns =
       keep-append (dueTo (f .ssi)) (l .due) (record { ssi = f .ssi; type = f .type; carrier = f .carrier; nr = ns; slot = slotBefore (l .time) } ∷ [])
       ∙ rw (eq-eqb (f .ssi) (f .ssi) refl)
 
-  -- A frame, as its address has it, where question 13 is passed.
+  numbered-own : (x : Option Bool) → own (f .ssi) h (numbered f x l) ≡ noting f x (own (f .ssi) h l)
+  unfolding own
+  numbered-own none = refl
+  numbered-own (some ns) =
+      own-parts (f .ssi) h h l (numbered f (some ns) l) refl
+      (numbers-own (f .ssi) (withLast (numbersOf (f .ssi) (l .rows)) ns) (l .rows))
+      refl refl (made-due ns) refl
+
+  -- Whether it goes up.
+  repeat-own :
+      (x : Option Bool) (up : List Record)
+      → unlessRepeated (own (f .ssi) h l .rows .last) x up ≡ cond (isRepeat f x l) [] up
+  unfolding own
+  repeat-own none up = refl
+  repeat-own (some ns) up = repeat-by ns (numbersOf (f .ssi) (l .rows) .last) up
+
+  -- A frame, as its address has it, where questions 7 and 13 are passed.
   pub received-own :
       (r : Received)
+      → Sound h l
+      → rowForFrame f (nsOf (r .header)) l ≡ true
       → dueRoom (nsOf (r .header)) l ≡ true
       → afterReceived f (accepted r) (own (f .ssi) h l) ≡ seenAs (own (f .ssi) h) (λ (rs : List Record). rs) (onReceived f (accepted r) l)
   unfolding afterReceived onReceived seenAs
-  received-own r room =
-      rw (room, can-own (nrOf (r .header)), ← made-due (nsOf (r .header)))
-      (by-test (mayFinish f (nrOf (r .header)) l)
-      (λ t. rw (t, heard-own (nrOf (r .header)) (withDue f (nsOf (r .header)) l)))
+  received-own r ok row room =
+      let ns : Option Bool = nsOf (r .header) in
+      let nr : Option Bool = nrOf (r .header) in
+      rw (row, room, can-own f h l ok nr, repeat-own ns (upward f (r .header) (r .sdu)), ← numbered-own ns)
+      (by-test (mayFinish f nr l)
+      (λ t. rw (t, heard-own f h (numbered f ns l) (sound-numbered h l f ns row room ok) nr))
       (λ t. rw t))
 
 -- Another address's frame changes nothing of an address, and gives no record with its SSI.
 module _ (a : ℕ) (f : Frame) (h : Holders) (l : Link) (ok : Sound h l) (other : eqb (f .ssi) a ≡ false) where
-  due-other : (x : Option Bool) → keep (dueTo a) (withDue f x l) ≡ keep (dueTo a) (l .due)
-  unfolding keep
-  due-other none = refl
-  due-other (some ns) =
-      keep-append (dueTo a) (l .due) (record { ssi = f .ssi; type = f .type; carrier = f .carrier; nr = ns; slot = slotBefore (l .time) } ∷ [])
-      ∙ rw other (append-nil (keep (dueTo a) (l .due)))
-
   not-to : (m : Message) → toSsi f m ≡ true → eqb (m .sent .ssi) a ≡ false
   not-to m t = rw (eqb-true (m .sent .ssi) (f .ssi) t) other
 
@@ -259,52 +287,69 @@ module _ (a : ℕ) (f : Frame) (h : Holders) (l : Link) (ok : Sound h l) (other 
       ∙ keep-others (λ (n : Message). eqb (n .sent .ssi) a) p (l .acknowledged) (λ n t. not-to n (both t .0))
 
   same-with :
-      (ms : List Message) (ds : List Due) (ps : List Place)
+      (ms : List Message) (ps : List Place)
       → ofAddress a ms ≡ ofAddress a (l .acknowledged)
-      → keep (dueTo a) ds ≡ keep (dueTo a) (l .due)
       → blank a h ps ≡ blank a h (l .receipts)
-      → own a h (withReceipts (dueNow (acknowledgedNow l ms) ds) ps) ≡ own a h l
+      → own a h (withReceipts (acknowledgedNow l ms) ps) ≡ own a h l
   unfolding own
-  same-with ms ds ps e d g =
-      own-parts a h h l (withReceipts (dueNow (acknowledgedNow l ms) ds) ps) refl refl e refl d g
+  same-with ms ps e g = own-parts a h h l (withReceipts (acknowledgedNow l ms) ps) refl refl e refl refl g
 
-  answered-other :
-      (nr : Bool) (ds : List Due) (x : Found Message)
-      → awaiting f l ≡ x
-      → keep (dueTo a) ds ≡ keep (dueTo a) (l .due)
-      → own a h (answeredBy nr x (dueNow l ds)) ≡ own a h l
+  answered-other : (nr : Bool) (x : Found Message) → awaiting f l ≡ x → own a h (answeredBy nr x l) ≡ own a h l
   unfolding answeredBy
-  answered-other nr ds nothing e d = same-with (l .acknowledged) ds (l .receipts) refl d refl
-  answered-other nr ds (first m xs) e d =
+  answered-other nr nothing e = refl
+  answered-other nr (first m xs) e =
       let i : ℕ = m .sent .receipt in
-      let gone : Link = withReceipts (dueNow (acknowledgedNow l xs) ds) (mark Marks.acknowledged i (l .receipts)) in
-      let moved : Link = dueNow (acknowledgedNow l (m ∷ xs)) ds in
+      let gone : Link = withReceipts (acknowledgedNow l xs) (mark Marks.acknowledged i (l .receipts)) in
+      let moved : Link = acknowledgedNow l (m ∷ xs) in
       by-test (fits nr m)
       (λ u.
       ap (own a h) (if-true gone moved u)
-      ∙ same-with xs ds (mark Marks.acknowledged i (l .receipts)) (others-other m xs e) d
+      ∙ same-with xs (mark Marks.acknowledged i (l .receipts)) (others-other m xs e)
       (blank-mark-other a h Marks.acknowledged i (l .receipts) (holder-other m xs e)))
       (λ u.
       ap (own a h) (if-false gone moved u)
-      ∙ same-with (m ∷ xs) ds (l .receipts)
-      (keep-no (λ (n : Message). eqb (n .sent .ssi) a) m xs (not-to m (to-ssi f h l ok m xs e)) ∙ others-other m xs e) d refl)
+      ∙ same-with (m ∷ xs) (l .receipts)
+      (keep-no (λ (n : Message). eqb (n .sent .ssi) a) m xs (not-to m (to-ssi f h l ok m xs e)) ∙ others-other m xs e) refl)
 
-  heard-other : (x y : Option Bool) → own a h (answered f x (dueNow l (withDue f y l))) ≡ own a h l
+  heard-other : (x : Option Bool) → own a h (answered f x l) ≡ own a h l
   unfolding awaiting
-  heard-other none y = same-with (l .acknowledged) (withDue f y l) (l .receipts) refl (due-other y) refl
-  heard-other (some nr) y = answered-other nr (withDue f y l) (awaiting f l) refl (due-other y)
+  heard-other none = refl
+  heard-other (some nr) = answered-other nr (awaiting f l) refl
 
   unless-empty : (s : List ℕ) (r : Record) → eqb (ssiOf r) a ≡ false → keep (λ (q : Record). eqb (ssiOf q) a) (unlessEmpty s r) ≡ []
   unfolding keep
   unless-empty [] r e = refl
   unless-empty (b ∷ s) r e = rw e
 
-  pub upward-other : (p : Pdu) (s : List ℕ) → keep (λ (q : Record). eqb (ssiOf q) a) (upward f p s) ≡ []
+  upward-other : (p : Pdu) (s : List ℕ) → keep (λ (q : Record). eqb (ssiOf q) a) (upward f p s) ≡ []
   unfolding upward keep
   upward-other (BlAdata c nr ns) s = rw other
   upward-other (BlData c ns) s = rw other
   upward-other (BlUdata c) s = rw other
   upward-other (BlAck c nr) s = unless-empty s (dataUp (indication f (BlAck c nr) 0 s)) other
 
-  pub heard-unseen : (r : Received) → own a h (afterHeard f r l) ≡ own a h l
-  heard-unseen r = heard-other (nrOf (r .header)) (nsOf (r .header))
+  pub sent-up-other : (r : Received) → keep (λ (q : Record). eqb (ssiOf q) a) (sentUp f r l) ≡ []
+  unfolding keep
+  sent-up-other r =
+      sent-up (λ (rs : List Record). keep (λ (q : Record). eqb (ssiOf q) a) rs ≡ []) f r l refl (upward-other (r .header) (r .sdu))
+
+-- What N(S) does, as another address has it; and the whole frame.
+module _ (a : ℕ) (f : Frame) (h : Holders) (l : Link) (other : eqb (f .ssi) a ≡ false) where
+  due-other : (ns : Bool) → keep (dueTo a) (withDue f ns l) ≡ keep (dueTo a) (l .due)
+  unfolding keep
+  due-other ns =
+      keep-append (dueTo a) (l .due) (record { ssi = f .ssi; type = f .type; carrier = f .carrier; nr = ns; slot = slotBefore (l .time) } ∷ [])
+      ∙ rw other (append-nil (keep (dueTo a) (l .due)))
+
+  numbered-other : (x : Option Bool) → own a h (numbered f x l) ≡ own a h l
+  unfolding own
+  numbered-other none = refl
+  numbered-other (some ns) =
+      own-parts a h h l (numbered f (some ns) l) refl
+      (numbers-other a (f .ssi) (withLast (numbersOf (f .ssi) (l .rows)) ns) (l .rows) other)
+      refl refl (due-other ns) refl
+
+  pub heard-unseen : (r : Received) → Heard f r l → Sound h l → own a h (afterHeard f r l) ≡ own a h l
+  heard-unseen r k ok =
+      let ns : Option Bool = nsOf (r .header) in
+      heard-other a f h (numbered f ns l) (sound-numbered h l f ns (k .row) (k .room) ok) other (nrOf (r .header)) ∙ numbered-other ns

@@ -20,14 +20,13 @@ use Rattle.llc_rule.specs.Calls.{Request, Frame}
 use Rattle.llc_rule.specs.Records.{Record, acknowledged, reply, unacknowledged, dataUp, unitdataUp, Sent}
 use Rattle.llc_rule.specs.Upward.{upward}
 use Rattle.llc_rule.specs.Messages.{Message, waiting, submittedAfter, doneAt, hasTime, overdue, Due, replyTo, Place, free, placeAt, isFree, taken?, reported, carrierOf, sentOf}
-use Rattle.llc_rule.specs.Keeps.{dueNow}
 use Rattle.llc_rule.specs.Link.{Link, bitOf, new, startedWith}
-use Rattle.llc_rule.specs.Step.{dueFor, receiptFree, dataPdu, withAcknowledged, withUnacknowledged, withDue, awaiting, fits, answeredBy, answered, agedBy, retransmission, Sending, firstSending, retransmissions, firstSendings, onTickEnd, step}
+use Rattle.llc_rule.specs.Step.{dueFor, receiptFree, dataPdu, withAcknowledged, withUnacknowledged, numbered, sentUp, awaiting, fits, answeredBy, answered, agedBy, retransmission, Sending, firstSending, retransmissions, firstSendings, onTickEnd, step}
 use Rattle.llc_rule.specs.Runs.{left, given, Exchange, exchange, run}
 use Rattle.llc_rule.specs.Past.{About, aboutCall, Holders, nobody, holding, heldAfter, doneTo, holders}
 use Rattle.llc_rule.specs.Sound.{Owned, Sound, isNobody}
 use Rattle.llc_rule.specs.Sendings.{taker, requestSpelled, ends, handed, sendings, AtMostFour, EachAtMostFour}
-use Rattle.llc_rule.proofs.Paths.{Acknowledged, Unacknowledged, Paths, step-law}
+use Rattle.llc_rule.proofs.Paths.{Acknowledged, Unacknowledged, afterHeard, Paths, sent-up, step-law}
 use Rattle.llc_rule.proofs.About.{about-accepted, takes-own}
 use Rattle.llc_rule.proofs.Held.{all-found}
 use Rattle.llc_rule.proofs.SoundLists.{other-place}
@@ -302,6 +301,11 @@ module _ (i : ℕ) (s : Sent) (l : Link) where
   kept-answered f none out e = kept-same i s (l .acknowledged) out e
   kept-answered f (some nr) out e = kept-answeredBy _ nr (awaiting f l) out (find-by _ (l .acknowledged)) e
 
+-- N(S) leaves the messages.
+same-queue : (f : Frame) (x : Option Bool) (l : Link) → numbered f x l .acknowledged ≡ l .acknowledged
+same-queue f none l = refl
+same-queue f (some ns) l = refl
+
 -- Where receipt i is taken, no request that is accepted takes it.
 module _ (i : ℕ) (s : Sent) (l : Link) (h : isFree (placeAt (l .receipts) i) ≡ false) where
   kept-paths : Paths l (λ c k rs. Kept i s (l .acknowledged) (k .acknowledged) rs)
@@ -316,8 +320,9 @@ module _ (i : ℕ) (s : Sent) (l : Link) (h : isFree (placeAt (l .receipts) i) �
         unacknowledged = λ v r link p used a. kept-same i s (l .acknowledged) [] refl;
         heard =
             λ f r a.
-            kept-answered i s (dueNow l (withDue f (nsOf (r .header)) l)) f (nrOf (r .header)) (upward f (r .header) (r .sdu))
-            (handed-upward i f (r .header) (r .sdu));
+            subst (λ (ms : List Message). Kept i s ms (afterHeard f r l .acknowledged) (sentUp f r l)) (same-queue f (nsOf (r .header)) l)
+            (kept-answered i s (numbered f (nsOf (r .header)) l) f (nrOf (r .header)) (sentUp f r l)
+            (sent-up (λ (rs : List Record). handed i rs ≡ []) f r l refl (handed-upward i f (r .header) (r .sdu))));
         reported = λ j how a. kept-same i s (l .acknowledged) [] refl;
         released = λ j a. kept-same i s (l .acknowledged) [] refl;
       }

@@ -18,13 +18,14 @@ use Rattle.llc_pdus.specs.Received.{Received}
 use Rattle.llc_rule.specs.Calls.{Frame}
 use Rattle.llc_rule.specs.Records.{Sent}
 use Rattle.llc_rule.specs.Messages.{Message, Due, mark}
-use Rattle.llc_rule.specs.Keeps.{acknowledgedNow, dueNow, withReceipts}
-use Rattle.llc_rule.specs.Link.{Link}
-use Rattle.llc_rule.specs.Step.{dueRoom, withDue, awaiting, fits, answeredBy, answered}
+use Rattle.llc_rule.specs.Keeps.{withLast, acknowledgedNow, dueNow, withReceipts, withRows}
+use Rattle.llc_rule.specs.Link.{Link, Row, numbersOf}
+use Rattle.llc_rule.specs.Step.{rowForFrame, dueRoom, withDue, withHeard, numbered, awaiting, fits, answeredBy, answered}
 use Rattle.llc_rule.specs.Past.{Holders}
 use Rattle.llc_rule.specs.Sound.{acknowledgedWith, unacknowledgedWith, Sound}
 use Rattle.llc_rule.proofs.Places.{mark-free}
 use Rattle.llc_rule.proofs.SoundLists.{owned-marked, pending-other, waiting-other, ahead-front, ahead-less}
+use Rattle.llc_rule.proofs.SoundRequests.{rows-within}
 use Rattle.llc_rule.proofs.Paths.{Heard, afterHeard}
 
 -- A submitted message moved to the front of the queue.
@@ -131,15 +132,29 @@ sound-answered h l f (some nr) s =
     (find-by p (l .acknowledged))
     s
 
--- Other acknowledgements due, not too many.
-sound-due : (h : Holders) (l : Link) (ds : List Due) → length ds ≤ 64 → Sound h l → Sound h (dueNow l ds)
-sound-due h l ds room s = search
+-- Other acknowledgements due and other rows, not too many.
+sound-with :
+    (h : Holders) (l : Link) (ds : List Due) (rs : List Row)
+    → length ds ≤ 64
+    → length rs ≤ 256
+    → Sound h l
+    → Sound h (withRows (dueNow l ds) rs)
+sound-with h l ds rs room row s = search
 
-due-within : (f : Frame) (l : Link) (ns : Option Bool) → dueRoom ns l ≡ true → length (l .due) ≤ 64 → length (withDue f ns l) ≤ 64
-due-within f l none e h = h
-due-within f l (some ns) e h = rw (length-append (l .due) _) (omega (arith, ltb-true (length (l .due)) 64 e))
+-- What N(S) does.
+pub sound-numbered :
+    (h : Holders) (l : Link) (f : Frame) (ns : Option Bool)
+    → rowForFrame f ns l ≡ true
+    → dueRoom ns l ≡ true
+    → Sound h l
+    → Sound h (numbered f ns l)
+sound-numbered h l f none row room s = s
+sound-numbered h l f (some ns) row room s =
+    sound-with h l (withDue f ns l) (withHeard f ns l)
+    (rw (length-append (l .due) _) (omega (arith, ltb-true (length (l .due)) 64 room)))
+    (rows-within l (f .ssi) (withLast (numbersOf (f .ssi) (l .rows)) ns) row (s .limits .rows))
+    s
 
 pub sound-heard : (h : Holders) (l : Link) (f : Frame) (r : Received) → Heard f r l → Sound h l → Sound h (afterHeard f r l)
 sound-heard h l f r a s =
-    sound-answered h (dueNow l (withDue f (nsOf (r .header)) l)) f (nrOf (r .header))
-    (sound-due h l (withDue f (nsOf (r .header)) l) (due-within f l (nsOf (r .header)) (a .room) (s .limits .due)) s)
+    sound-answered h (numbered f (nsOf (r .header)) l) f (nrOf (r .header)) (sound-numbered h l f (nsOf (r .header)) (a .row) (a .room) s)

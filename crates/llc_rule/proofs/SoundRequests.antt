@@ -215,7 +215,7 @@ sound-unacknowledged h l t ds b f room roomDue s =
 -- Rows and due acknowledgements -------------------------------------------------------------------------------------------
 
 -- A row is written in the place of the address's row, or is one more.
-rows-within :
+pub rows-within :
     (l : Link) (a : ℕ) (n : Numbers)
     → rowFor a l ≡ true
     → length (l .rows) ≤ 256

@@ -1,7 +1,7 @@
 -- What the statements of the theorems say of exchanges that are written by hand, where no run of the link would show it.
 use Prim.Native.Nat.{ℕ}
 use mathlib.Core.Path.{_≡_, refl}
-use mathlib.Core.Bool.{true, false}
+use mathlib.Core.Bool.{Bool, true, false}
 use mathlib.Core.List.{List, [], _∷_, map}
 use mathlib.Core.Option.{Option, none, some}
 use lib.Dec.{eqb}
@@ -26,6 +26,7 @@ use Rattle.llc_rule.specs.Runs.{Exchange, after}
 use Rattle.llc_rule.specs.Past.{about, Holders, nobody, doneTo, holders, everybody's, nobody's, belongsTo, whose, inPast, nothingYet, andThen, history, past, strays, holdersAfter, sight, heldBy, takenFrom}
 use Rattle.llc_rule.specs.Seen.{ruleRun, unhindered}
 use Rattle.llc_rule.specs.Sendings.{handed, sendings}
+use Rattle.llc_rule.specs.Repeats.{heardIn, lastFrom, lastHeard, noneFrom}
 use Rattle.llc_rule.specs.Texts.{textsIn, shown}
 use Rattle.llc_rule.proofs.Runs.{hex, exchanges}
 
@@ -263,6 +264,43 @@ texts-shown = refl
 
 none-shown : map (λ (p : Pdu). shown p []) pdus ≡ ([] ∷ []) ∷ ([] ∷ []) ∷ ([] ∷ []) ∷ [] ∷ []
 none-shown = refl
+
+-- What may stand between two frames with N(S) of the first address: anything but an accepted start and another of its own that is
+-- accepted. `frame` is one, a BL-DATA with N(S) 1.
+abbrev frameOfSecond : List ℕ
+frameOfSecond = hex 21 0x2600125bc72d0105fa1a2b3c4d5e6f708100000510
+
+abbrev udataOfFirst : List ℕ
+udataOfFirst = hex 21 0x2600120a3e910105fa1a2b3c4d5e6f708100000528
+
+abbrev ackOfFirst : List ℕ
+ackOfFirst = hex 21 0x2600120a3e910105fa1a2b3c4d5e6f708100000538
+
+abbrev betweenFrames : Exchange → Bool
+betweenFrames e = noneFrom first (e ∷ [])
+
+quiet-told :
+    map betweenFrames
+    (told frameOfSecond 0 [] ∷ told udataOfFirst 0 [] ∷ told ackOfFirst 0 [] ∷ told frame 13 [] ∷ told frame 7 [] ∷ told start 5 []
+    ∷ told tickStart 0 [] ∷ told tickEnd 0 mixed ∷ told request 0 [] ∷ told report 0 [] ∷ told release 0 [] ∷ told noCall 2 []
+    ∷ told frame 0 [] ∷ told start 0 [] ∷ [])
+    ≡ true ∷ true ∷ true ∷ true ∷ true ∷ true ∷ true ∷ true ∷ true ∷ true ∷ true ∷ true ∷ false ∷ false ∷ []
+unfolding heardIn all toBytes exchanges
+quiet-told = refl
+
+-- And the last N(S) accepted from it after each of some exchanges.
+last-told :
+    map (λ (es : List Exchange). lastHeard first es)
+    ([]
+    ∷ (told start 0 [] ∷ [])
+    ∷ (told start 0 [] ∷ told frame 13 [] ∷ [])
+    ∷ (told start 0 [] ∷ told frame 0 [] ∷ [])
+    ∷ (told start 0 [] ∷ told frame 0 [] ∷ told frameOfSecond 0 [] ∷ told udataOfFirst 0 [] ∷ told ackOfFirst 0 [] ∷ told start 5 [] ∷ [])
+    ∷ (told start 0 [] ∷ told frame 0 [] ∷ told start 0 [] ∷ [])
+    ∷ [])
+    ≡ none ∷ none ∷ none ∷ some true ∷ some true ∷ none ∷ []
+unfolding lastFrom heardIn toBytes exchanges
+last-told = refl
 
 -- Document 01's frame of 010111 and 32 ones, and the same text without the flag.
 frames-whole :

@@ -13,7 +13,8 @@ use Rattle.llc_rule.specs.Past.{Whose, belongsTo, whose, holdersAfter}
 use Rattle.llc_rule.specs.Seen.{calls, unhindered, ruled, keptByRule, SeesItsOwnPast, SeesTheSame, countUnderWay, MarkedWhereTransmitted}
 use Rattle.llc_rule.specs.Sendings.{EachAtMostFour}
 use Rattle.llc_rule.specs.Sound.{ofAddress}
-use Rattle.llc_rule.specs.Texts.{TextGoesUp}
+use Rattle.llc_rule.specs.Repeats.{RepeatsStop}
+use Rattle.llc_rule.specs.Texts.{TextsGoUp}
 
 -- Whose a call is after the exchanges of other calls.
 abbrev pub whoseAfter : List Exchange → List ℕ → Whose
@@ -57,7 +58,9 @@ pub record Claims
       → (a : ℕ)
       → All (MarkedWhereTransmitted (keptByRule a (run cs) .receipts)) (keptByRule a (run cs) .acknowledged)
   -- "From now on a received SDU ends before its 32 check bits": of every call, whatever was refused.
-  pub texts : (cs : List C) → All TextGoesUp (run cs)
+  pub texts : (cs : List C) → TextsGoUp (run cs)
+  -- "A frame with that same N(S) .. nothing goes up", whatever was refused.
+  pub repeats : (cs : List C) → RepeatsStop (run cs)
   -- Of every request that is accepted, at most four sendings, all the same, by its records: whatever was refused, and "by that
   -- rule .. each is handed down at most four times".
   pub four : (cs : List C) → EachAtMostFour (run cs)

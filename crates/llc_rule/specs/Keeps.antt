@@ -1,22 +1,29 @@
 -- What the link keeps for all addresses and the one-address rule for its own: the same lists, and beside them the rows.
 use Prim.Native.Nat.{ℕ}
-use mathlib.Core.Bool.{Bool, true, false}
+use mathlib.Core.Bool.{Bool, false}
 use mathlib.Core.List.{List, []}
+use mathlib.Core.Option.{Option, none, some}
 use Rattle.tdma_time.specs.Slots.{first}
 use Rattle.tdma_time.specs.declared.TdmaTime.{TdmaTime}
 use Rattle.llc_rule.specs.Records.{Sent}
 use Rattle.llc_rule.specs.Messages.{Message, Due, Place, noReceipts}
 
--- What an address row holds beside its SSI: the bit that the next acknowledged message takes as N(S).
+-- What an address row holds beside its SSI: the bit that the next acknowledged message takes as N(S), and "the last N(S) accepted
+-- from that SSI, or that there is none".
 pub record Numbers : Type 0 where
   pub bit : Bool
+  pub last : Option Bool
 
--- Before the first: "the row's bit (first 0)".
+-- Before the first of each: "the row's bit (first 0)".
 abbrev pub noNumbers : Numbers
-noNumbers = record { bit = false }
+noNumbers = record { bit = false; last = none }
 
+-- The same with another bit, and with a last N(S).
 abbrev pub withBit : Numbers → Bool → Numbers
-withBit n b = record { bit = b }
+withBit n b = record { bit = b; last = n .last }
+
+abbrev pub withLast : Numbers → Bool → Numbers
+withLast n ns = record { bit = n .bit; last = some ns }
 
 -- With R for the rows.
 pub record Keeps (R : Type 0) : Type 0 where

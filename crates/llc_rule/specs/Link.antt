@@ -7,6 +7,7 @@ use lib.Dec.{eqb}
 use Rattle.lists.specs.Lists.{firstOr, filed}
 use Rattle.llc_rule.specs.Keeps.{Keeps, Numbers, noNumbers, nothingHeld}
 
+-- An address row.
 pub record Row : Type 0 where
   pub ssi : ℕ
   pub numbers : Numbers
@@ -22,7 +23,7 @@ new = nothingHeld false 0 0 []
 unfoldable pub startedWith : ℕ → ℕ → Link
 startedWith carrier t251 = nothingHeld true carrier t251 []
 
--- The row of an address, and as it is before the address has one.
+-- Is a row an address's? And an address's row with some numbers.
 abbrev pub isRowOf : ℕ → Row → Bool
 isRowOf a w = eqb (w .ssi) a
 

@@ -8,7 +8,6 @@ use lib.Dec.{eqb, ltb}
 use lib.ListN.{set}
 use Rattle.lists.specs.Lists.{any, Found, nothing, first, find, others, Visit, walk}
 use Rattle.questions.specs.Outcome.{Outcome, accepted, refused, ask}
-use Rattle.tdma_time.specs.Slots as Slots
 use Rattle.tdma_time.specs.declared.TdmaTime.{TdmaTime}
 use Rattle.tx_receipt.specs.States.{is, final}
 use Rattle.tx_receipt.specs.Marks as Marks
@@ -24,10 +23,10 @@ use Rattle.llc_rule.specs.Records.{Record, acknowledged, unacknowledged,
 use Rattle.llc_rule.specs.Upward.{upward}
 use Rattle.llc_rule.specs.Messages.{Message, waiting, submittedAfter, doneAt, hasTime, overdue, Due, slotBefore, replyTo, Place, free, placeAt, pending, taken?, mark, markOf, reported, carrierOf, sentOf}
 use Rattle.llc_rule.specs.Done.{Done, done}
-use Rattle.llc_rule.specs.Keeps.{Keeps, Numbers, noNumbers, withBit, nothingHeld, withTime, acknowledgedNow, unacknowledgedNow, dueNow, withReceipts, withRows}
+use Rattle.llc_rule.specs.Keeps.{Keeps, Numbers, noNumbers, nothingHeld, withTime, acknowledgedNow, unacknowledgedNow, dueNow, withReceipts, withRows}
 
 -- "The rule keeps whether it is started, main carrier, T251, time, the row's bit, acknowledged and unacknowledged messages and
--- due acknowledgements in order, and receipts with marks."
+-- due acknowledgements in order, and receipts with marks." And the last N(S).
 abbrev pub Own : Type 0
 Own = Keeps Numbers
 
@@ -70,7 +69,7 @@ requested r o found (acknowledgedly p) =
     (withReceipts
     (dueNow (acknowledgedNow o (o .acknowledged ++ (m ∷ []))) (others found (o .due)))
     (set (o .receipts) (r .receipt) (pending true)))
-    (withBit (o .rows) (not (o .rows .bit)))
+    (record { bit = not (o .rows .bit); last = o .rows .last })
 requested r o found (unacknowledgedly link p uses) =
     withReceipts
     (dueNow
@@ -147,12 +146,25 @@ atTickEnd o =
     (sentFirst o .state))
     (resent o .out ++ (sentFirst o .out ++ (map replyTo (o .due) ++ map unacknowledged (o .unacknowledged))))
 
--- "N(S) makes an acknowledgement due, its slot two before now."
-abbrev pub madeDue : Frame → Option Bool → Own → List Due
-madeDue f none o = o .due
-madeDue f (some ns) o =
-    o .due
-    ++ (record { ssi = f .ssi; type = f .type; carrier = f .carrier; nr = ns; slot = slotBefore (o .time) } ∷ [])
+-- "N(S) makes an acknowledgement due, its slot two before now", and is "the last N(S) accepted from that SSI": "the one-address
+-- rule gains this number".
+abbrev pub noting : Frame → Option Bool → Own → Own
+noting f none o = o
+noting f (some ns) o =
+    withRows
+    (dueNow o
+    (o .due
+    ++ (record { ssi = f .ssi; type = f .type; carrier = f .carrier; nr = ns; slot = slotBefore (o .time) } ∷ [])))
+    (record { bit = o .rows .bit; last = some ns })
+
+-- "A frame with that same N(S) .. nothing goes up", by the last one and its own; a frame without N(S) is none.
+abbrev pub unlessRepeated : Option Bool → Option Bool → List Record → List Record
+unlessRepeated last none up = up
+unlessRepeated none (some ns) up = up
+unlessRepeated (some true) (some true) up = []
+unlessRepeated (some true) (some false) up = up
+unlessRepeated (some false) (some true) up = up
+unlessRepeated (some false) (some false) up = []
 
 -- The message under way, and the others.
 unfoldable pub theOne : Own → Found Message
@@ -186,13 +198,15 @@ abbrev pub heard : Frame → Option Bool → Own → Own
 heard f none o = o
 heard f (some nr) o = finished f nr (theOne o) o
 
--- A frame that passed questions 9 to 12: question 14, what it does and what goes up.
+-- A frame that passed questions 9 to 12: question 14, what it does and what goes up. It is asked neither 7 nor 13.
 unfoldable pub afterReceived : Frame → Outcome Received → Own → Outcome (Done Own)
 afterReceived f (refused n) o = refused n
 afterReceived f (accepted r) o =
     ask 14 (canFinish f (nrOf (r .header)) o)
     (accepted
-    (done (heard f (nrOf (r .header)) (dueNow o (madeDue f (nsOf (r .header)) o))) (upward f (r .header) (r .sdu))))
+    (done
+    (heard f (nrOf (r .header)) (noting f (nsOf (r .header)) o))
+    (unlessRepeated (o .rows .last) (nsOf (r .header)) (upward f (r .header) (r .sdu)))))
 
 unfoldable pub afterFrame : Frame → Own → Outcome (Done Own)
 afterFrame f o = afterReceived f (received (f .pdu)) o

@@ -22,8 +22,8 @@ use Rattle.llc_rule.specs.Records.{Record, acknowledged, unacknowledged,
 use Rattle.llc_rule.specs.Upward.{upward}
 use Rattle.llc_rule.specs.Messages.{Message, waiting, submittedAfter, doneAt, hasTime, overdue, Due, slotBefore, replyTo, Place, free, placeAt, isFree, pending, taken?, mark, markOf, reported, carrierOf, sentOf}
 use Rattle.llc_rule.specs.Done.{Done, done}
-use Rattle.llc_rule.specs.Keeps.{withBit, withTime, acknowledgedNow, unacknowledgedNow, dueNow, withReceipts, withRows}
-use Rattle.llc_rule.specs.Link.{Link, startedWith, bitOf, numbersOf, withNumbers, isRowOf}
+use Rattle.llc_rule.specs.Keeps.{withBit, withLast, withTime, acknowledgedNow, unacknowledgedNow, dueNow, withReceipts, withRows}
+use Rattle.llc_rule.specs.Link.{Link, Row, startedWith, bitOf, numbersOf, withNumbers, isRowOf}
 
 -- Requests ----------------------------------------------------------------------------------------------------------------
 
@@ -42,7 +42,7 @@ onAcknowledgedPath r = eqb (r .type) 1 && not (steals r)
 abbrev pub receiptFree : Request → Link → Bool
 receiptFree r l = isFree (placeAt (l .receipts) (r .receipt))
 
--- "7. Acknowledged path: has its SSI a row, or is a row free?" Of 256.
+-- "7. .. has its SSI a row, or is a row free?" Of 256.
 unfoldable pub rowFor : ℕ → Link → Bool
 rowFor a l = any (isRowOf a) (l .rows) || ltb (length (l .rows)) 256
 
@@ -98,17 +98,43 @@ onUnitdata r l =
 
 -- Frames ------------------------------------------------------------------------------------------------------------------
 
+-- "Question 7 is now also put to every frame with N(S), between 12 and 13."
+abbrev pub rowForFrame : Frame → Option Bool → Link → Bool
+rowForFrame f none l = true
+rowForFrame f (some ns) l = rowFor (f .ssi) l
+
 -- "13. With N(S): under 64 acknowledgements due?"
 abbrev pub dueRoom : Option Bool → Link → Bool
 dueRoom none l = true
 dueRoom (some ns) l = ltb (length (l .due)) 64
 
 -- "N(S) makes an acknowledgement due, its slot two before now."
-abbrev pub withDue : Frame → Option Bool → Link → List Due
-withDue f none l = l .due
-withDue f (some ns) l =
+abbrev pub withDue : Frame → Bool → Link → List Due
+withDue f ns l =
     l .due
     ++ (record { ssi = f .ssi; type = f .type; carrier = f .carrier; nr = ns; slot = slotBefore (l .time) } ∷ [])
+
+-- "A frame with that same N(S)": N(S) alone is looked at.
+abbrev pub isLast : Bool → Option Bool → Bool
+isLast ns none = false
+isLast ns (some last) = Bool·beq last ns
+
+abbrev pub isRepeat : Frame → Option Bool → Link → Bool
+isRepeat f none l = false
+isRepeat f (some ns) l = isLast ns (numbersOf (f .ssi) (l .rows) .last)
+
+-- "The address row shall also hold the last N(S) accepted from that SSI": a frame's N(S), in a row that is new if it had none.
+abbrev pub withHeard : Frame → Bool → Link → List Row
+withHeard f ns l = withNumbers (f .ssi) (withLast (numbersOf (f .ssi) (l .rows)) ns) (l .rows)
+
+-- What N(S) does.
+abbrev pub numbered : Frame → Option Bool → Link → Link
+numbered f none l = l
+numbered f (some ns) l = withRows (dueNow l (withDue f ns l)) (withHeard f ns l)
+
+-- What goes up of a frame: "A frame with that same N(S) is acknowledged and its N(R) obeyed, and nothing goes up."
+abbrev pub sentUp : Frame → Received → Link → List Record
+sentUp f r l = cond (isRepeat f (nsOf (r .header)) l) [] (upward f (r .header) (r .sdu))
 
 -- The submitted message of an SSI on a carrier, and the others.
 unfoldable pub awaiting : Frame → Link → Found Message
@@ -145,14 +171,14 @@ abbrev pub answered : Frame → Option Bool → Link → Link
 answered f none l = l
 answered f (some nr) l = answeredBy nr (awaiting f l) l
 
--- A frame that passed questions 9 to 12: 13, 14, and what it does and sends up.
+-- A frame that passed questions 9 to 12: 7, 13, 14, and what it does and sends up.
 unfoldable pub onReceived : Frame → Outcome Received → Link → Outcome (Done Link)
 onReceived f (refused n) l = refused n
 onReceived f (accepted r) l =
-    ask 13 (dueRoom (nsOf (r .header)) l)
+    ask 7 (rowForFrame f (nsOf (r .header)) l)
+    (ask 13 (dueRoom (nsOf (r .header)) l)
     (ask 14 (mayFinish f (nrOf (r .header)) l)
-    (accepted
-    (done (answered f (nrOf (r .header)) (dueNow l (withDue f (nsOf (r .header)) l))) (upward f (r .header) (r .sdu)))))
+    (accepted (done (answered f (nrOf (r .header)) (numbered f (nsOf (r .header)) l)) (sentUp f r l)))))
 
 unfoldable pub onFrame : Frame → Link → Outcome (Done Link)
 onFrame f l = onReceived f (received (f .pdu)) l

@@ -2,16 +2,19 @@
 -- now on a received SDU ends before its 32 check bits."
 use Prim.Native.Nat.{ℕ}
 use mathlib.Core.Path.{_≡_}
-use mathlib.Core.Bool.{false}
-use mathlib.Core.List.{List, [], _∷_}
+use mathlib.Core.Bool.{Bool, false, cond, Bool·beq}
+use mathlib.Core.List.{List, [], _∷_, _++_}
+use mathlib.Core.Option.{Option, none, some}
 use Rattle.lists.specs.Lists.{among}
 use Rattle.questions.specs.Outcome.{accepted}
+use Rattle.llc_pdus.specs.Headers.{nsOf}
 use Rattle.llc_pdus.specs.Received.{wholeFrame}
 use Rattle.llc_pdus.specs.declared.Pdu.{Pdu}
 use Rattle.llc_pdus.specs.declared.Pdu.the-variants.{BlAdata, BlData, BlUdata, BlAck}
 use Rattle.llc_rule.specs.Calls.{Frame, frame, parsed}
 use Rattle.llc_rule.specs.Records.{Record, acknowledged, reply, unacknowledged, dataUp, unitdataUp}
 use Rattle.llc_rule.specs.Runs.{Exchange}
+use Rattle.llc_rule.specs.Repeats.{lastHeard}
 
 -- The texts that records bring up.
 unfoldable pub textsIn : List Record → List (List ℕ)
@@ -37,9 +40,16 @@ pub record Framed (l : List ℕ) : Type 0 where
   pub text : List ℕ
   pub is : l ≡ wholeFrame pdu text
 
--- Of a call that spells a frame of a PDU with a text, and with the check bits of that text where the flag is set: it is not
--- refused by 9, 10, 11 or 12, and if it is accepted exactly the text goes up. And no other frame is accepted.
-pub record TextGoesUp (e : Exchange) : Type 0 where
+-- Of a repeat nothing: by the last N(S) accepted from its address, and its own.
+abbrev pub unlessLast : Option Bool → Option Bool → List (List ℕ) → List (List ℕ)
+unlessLast last none texts = texts
+unlessLast none (some ns) texts = texts
+unlessLast (some last) (some ns) texts = cond (Bool·beq last ns) [] texts
+
+-- Of a call that spells a frame of a PDU with a text, and with the check bits of that text where the flag is set, after some
+-- exchanges: it is not refused by 9, 10, 11 or 12, and if it is accepted exactly the text goes up, of a repeat nothing. And no
+-- other frame is accepted.
+pub record TextGoesUp (before : List Exchange) (e : Exchange) : Type 0 where
   pub read :
       (f : Frame) (p : Pdu) (text : List ℕ)
       → parsed (e .call) ≡ accepted (frame f)
@@ -50,5 +60,12 @@ pub record TextGoesUp (e : Exchange) : Type 0 where
       → parsed (e .call) ≡ accepted (frame f)
       → f .pdu ≡ wholeFrame p text
       → e .number ≡ 0
-      → textsIn (e .records) ≡ shown p text
+      → textsIn (e .records) ≡ unlessLast (lastHeard (f .ssi) before) (nsOf p) (shown p text)
   pub only : (f : Frame) → parsed (e .call) ≡ accepted (frame f) → e .number ≡ 0 → Framed (f .pdu)
+
+-- Of every call of a run.
+pub record TextsGoUp (es : List Exchange) : Type 0 where
+  pub each :
+      (before : List Exchange) (e : Exchange) (later : List Exchange)
+      → es ≡ before ++ (e ∷ later)
+      → TextGoesUp before e

@@ -8,10 +8,10 @@ use borrow.Author.Tests.{eqb-true}
 use lib.Dec.{eqb}
 use lib.ListN.{length}
 use Rattle.lists.specs.Lists.{keep, among, All}
-use Rattle.lists.proofs.Lists.{all-back}
 use Rattle.lists.proofs.Choices.{by-test, if-true, if-false, clash}
 use Rattle.bits.proofs.Laws.{length-bits}
 use Rattle.questions.specs.Outcome.{accepted}
+use Rattle.llc_pdus.specs.Headers.{nsOf}
 use Rattle.llc_pdus.specs.Received.{wholeFrame}
 use Rattle.llc_pdus.specs.declared.Pdu.{Pdu}
 use Rattle.llc_rule.specs.Limits.{storeBytes}
@@ -24,9 +24,11 @@ use Rattle.llc_rule.specs.Past.{belongsTo, whose, History, historyOf, holdersAf
 use Rattle.llc_rule.specs.Seen.{ruleRun, ruleSights, ruleAfter, calls, unhindered, SeesItsOwnPast, SeesTheSame, countUnderWay, MarkedWhereTransmitted}
 use Rattle.llc_rule.specs.Claim.{whoseAfter, Claims}
 use Rattle.llc_rule.specs.Sound.{ofAddress}
-use Rattle.llc_rule.specs.Texts.{textsIn, shown as shownOf, Framed, TextGoesUp}
+use Rattle.llc_rule.specs.Repeats.{lastHeard}
+use Rattle.llc_rule.specs.Texts.{textsIn, shown as shownOf, unlessLast, Framed, TextGoesUp}
 use Rattle.llc_rule.specs.Sendings.{requestSpelled, sendings, AtMostFour, EachAtMostFour}
 use Rattle.llc_rule.proofs.Paths.{not-one}
+use Rattle.llc_rule.proofs.Repeats.{StopsAfter, stops-run, repeats-stop}
 use Rattle.llc_rule.proofs.Claim.{claims}
 use Rattle.llc_state.specs.Ranges.{stateInRange}
 use Rattle.llc_state.proofs.View.{new-in-range}
@@ -35,7 +37,7 @@ use Rattle.llc_runs.specs.Runs.{Lent, Station, begin, left, exchange, ru
 use Rattle.llc_runs.specs.Heard.{lentEnough, fitting, putTo}
 use Rattle.llc_runs.specs.Outputs.{ReadOff}
 use Rattle.llc_runs.specs.Claim.{linkAt, receiptsAfter, messagesAfter, InRange, Claim}
-use Rattle.llc_runs.proofs.Ones.{history-heard, unhindered-heard, four-heard, texts-heard}
+use Rattle.llc_runs.proofs.Ones.{history-heard, unhindered-heard, four-heard, each-heard, text-one, text-same, stops-one, stops-same}
 use Rattle.llc_runs.proofs.Runs.{silent, run-split, Asked, asks, asks-not, fitting-append, fitting-yes, fitting-no, follows, wrong-is, stuck, begin-right, begin-wrong, as-step}
 use Rattle.llc_runs.proofs.Outputs.{shown, readable, only, lines}
 
@@ -276,7 +278,17 @@ runs store =
           (ruleAfter atFirst (calls (k .past a)) .acknowledged))
           (claims .whereTransmittedByRule (putTo store cs) (on-link store cs u) a);
       texts =
-          λ cs. texts-heard (run (begin store) cs) (subst (All TextGoesUp) (sym (as-step store cs .heard)) (claims .texts (putTo store cs)));
+          λ cs.
+          record {
+            each =
+                each-heard TextGoesUp text-one text-same (run (begin store) cs)
+                (λ before e later split. claims .texts (putTo store cs) .each before e later (sym (as-step store cs .heard) ∙ split));
+          };
+      repeats =
+          λ cs.
+          repeats-stop (run (begin store) cs)
+          (each-heard StopsAfter stops-one stops-same (run (begin store) cs)
+          (λ before e later split. stops-run (putTo store cs) before e later (sym (as-step store cs .heard) ∙ split)));
       four =
           λ cs.
           four-heard (run (begin store) cs) (silent (begin store) cs)
@@ -302,11 +314,12 @@ four-later store before c r later n q =
     q
 
 -- A text that came in, by the calls: after any calls.
-text-at : (store : List ℕ) (before : List Lent) (c : Lent) → TextGoesUp (exchange (after (begin store) before) c)
+text-at :
+    (store : List ℕ) (before : List Lent) (c : Lent) → TextGoesUp (run (begin store) before) (exchange (after (begin store) before) c)
 text-at store before c =
     let s : Station = after (begin store) before in
-    let up = subst (All TextGoesUp) (run-split (begin store) before c []) (runs store .texts (before ++ (c ∷ []))) in
-    all-back TextGoesUp (run (begin store) before) (exchange s c ∷ run (left s c) []) up .0
+    runs store .texts (before ++ (c ∷ [])) .each (run (begin store) before) (exchange s c) (run (left s c) [])
+    (run-split (begin store) before c [])
 
 module _ (store : List ℕ) (before : List Lent) (c : Lent) (f : Frame) where
   pub text-later :
@@ -314,7 +327,8 @@ module _ (store : List ℕ) (before : List Lent) (c : Lent) (f : Frame) where
       → parsed (c .call) ≡ accepted (frame f)
       → f .pdu ≡ wholeFrame p text
       → exchange (after (begin store) before) c .number ≡ 0
-      → textsIn (exchange (after (begin store) before) c .records) ≡ shownOf p text
+      → textsIn (exchange (after (begin store) before) c .records)
+      ≡ unlessLast (lastHeard (f .ssi) (run (begin store) before)) (nsOf p) (shownOf p text)
   unfolding exchange
   text-later p text e is z = text-at store before c .up f p text e is z
 

@@ -2,19 +2,24 @@
 use Prim.Native.Nat.{ℕ}
 use native.Mathlib.Omega.{arith}
 use mathlib.Core.Path.{_≡_, _∙_, refl, sym, ap, subst}
-use mathlib.Core.Bool.{Bool, false, cond, not, _&&_}
+use mathlib.Core.Bool.{Bool, true, false, cond, not, _&&_, false≢true}
 use mathlib.Core.List.{List, [], _∷_, _++_, append-nil}
+use mathlib.Core.Option.{Option, none}
 use borrow.Author.Tests.{eqb-true, not-false}
 use lib.Dec.{eqb}
 use Rattle.lists.specs.Lists.{keep, any, all, among, All}
 use Rattle.lists.proofs.Lists.{keep-yes, keep-no, keep-append, all-back}
 use Rattle.lists.proofs.Choices.{by-test, if-false}
+use Rattle.llc_pdus.specs.Headers.{nsOf}
+use Rattle.llc_rule.specs.Calls.{parsed}
 use Rattle.llc_rule.specs.Records.{Record, ssiOf, Sent}
 use Rattle.llc_rule.specs.Runs.{Exchange}
 use Rattle.llc_rule.specs.Past.{stays, about, Holders, heldAfter, doneTo, holders, whose, concerns, leftOut, inPast, History, andThen, history}
 use Rattle.llc_rule.specs.Seen.{hindrances, unhindered}
 use Rattle.llc_rule.specs.Sendings.{ends, handed, sendings, AtMostFour, EachAtMostFour}
-use Rattle.llc_rule.specs.Texts.{TextGoesUp}
+use Rattle.llc_rule.specs.Repeats.{Hearing, hears, neither, hearing, heardIn, lastNext, lastFrom, lastHeard}
+use Rattle.llc_rule.specs.Texts.{shown, unlessLast, TextGoesUp}
+use Rattle.llc_rule.proofs.Repeats.{Stops, StopsAfter}
 use Rattle.llc_runs.specs.Heard.{wasHeard, heardOf}
 
 -- A call that got number 1 gave no record.
@@ -67,6 +72,10 @@ history-one k e n g =
       strays = λ a. strays-are a i;
     }
 
+none-heard : (e : Exchange) → e .number ≡ 1 → heardIn e ≡ neither
+unfolding heardIn
+none-heard e n = if-false (hearing (parsed (e .call))) neither (ap (λ (k : ℕ). eqb k 0) n)
+
 -- So it is of the history of a run.
 pub history-heard : (k : History) (es : List Exchange) → All Silent es → history k es ≡ history k (heardOf es)
 unfolding history
@@ -111,21 +120,73 @@ four-heard es q f =
           (f .each (heardOf before) e (heardOf later) r split n t);
     }
 
+-- And of the last N(S) accepted from an address.
+last-heard : (a : ℕ) (last : Option Bool) (es : List Exchange) → lastFrom a last (heardOf es) ≡ lastFrom a last es
+unfolding lastFrom keep
+last-heard a last [] = refl
+last-heard a last (e ∷ es) =
+    by-test (wasHeard e)
+    (λ w. ap (lastFrom a last) (keep-yes wasHeard e es w) ∙ last-heard a (lastNext a last (heardIn e)) es)
+    (λ w.
+    let n = eqb-true (e .number) 1 (not-false (eqb (e .number) 1) w) in
+    ap (lastFrom a last) (keep-no wasHeard e es w)
+    ∙ last-heard a last es
+    ∙ ap (λ (h : Hearing). lastFrom a (lastNext a last h) es) (sym (none-heard e n)))
+
+-- What holds of each exchange by the last N(S) accepted before it, and of those with number 1 anyhow, holds of all.
+module _
+    (P : List Exchange → Exchange → Type 0)
+    (ones : (before : List Exchange) (e : Exchange) → e .number ≡ 1 → P before e)
+    (same : (before also : List Exchange) (e : Exchange) → ((a : ℕ) → lastHeard a before ≡ lastHeard a also) → P before e → P also e)
+  where
+    pub each-heard :
+        (es : List Exchange)
+        → ((before : List Exchange) (e : Exchange) (later : List Exchange) → heardOf es ≡ before ++ (e ∷ later) → P before e)
+        → (before : List Exchange) (e : Exchange) (later : List Exchange)
+        → es ≡ before ++ (e ∷ later)
+        → P before e
+    unfolding keep
+    each-heard es each before e later split =
+        by-test (wasHeard e)
+        (λ w.
+        same (heardOf before) before e (λ a. last-heard a none before)
+        (each (heardOf before) e (heardOf later)
+        (ap heardOf split
+        ∙ keep-append wasHeard before (e ∷ later)
+        ∙ ap (λ (x : List Exchange). heardOf before ++ x) (keep-yes wasHeard e later w))))
+        (λ w. ones before e (eqb-true (e .number) 1 (not-false (eqb (e .number) 1) w)))
+
 -- A call that got number 1 was not refused by its bits, and was not accepted.
-text-one : (e : Exchange) → e .number ≡ 1 → TextGoesUp e
+pub text-one : (before : List Exchange) (e : Exchange) → e .number ≡ 1 → TextGoesUp before e
 unfolding any
-text-one e n =
+text-one before e n =
     record {
       read = λ f p text q is. ap (λ (k : ℕ). among k (9 ∷ 10 ∷ 11 ∷ 12 ∷ [])) n;
       up = λ f p text q is z. absurd (omega arith);
       only = λ f q z. absurd (omega arith);
     }
 
-pub texts-heard : (es : List Exchange) → All TextGoesUp (heardOf es) → All TextGoesUp es
-unfolding keep
-texts-heard [] a = tt
-texts-heard (e ∷ es) a =
-    by-test (wasHeard e)
-    (λ w. let b = subst (All TextGoesUp) (keep-yes wasHeard e es w) a in (b .0, texts-heard es (b .1)))
-    (λ w.
-    (text-one e (eqb-true (e .number) 1 (not-false (eqb (e .number) 1) w)), texts-heard es (subst (All TextGoesUp) (keep-no wasHeard e es w) a)))
+pub text-same :
+    (before also : List Exchange) (e : Exchange)
+    → ((a : ℕ) → lastHeard a before ≡ lastHeard a also)
+    → TextGoesUp before e
+    → TextGoesUp also e
+text-same before also e last t =
+    record {
+      read = t .read;
+      up =
+          λ f p text q is z.
+          t .up f p text q is z ∙ ap (λ (x : Option Bool). unlessLast x (nsOf p) (shown p text)) (last (f .ssi));
+      only = t .only;
+    }
+
+pub stops-one : (before : List Exchange) (e : Exchange) → e .number ≡ 1 → StopsAfter before e
+stops-one before e n a ns sdu h = let no : neither ≡ hears a ns sdu = sym (none-heard e n) ∙ h in let f : false ≡ true = cc in absurd (false≢true f)
+
+pub stops-same :
+    (before also : List Exchange) (e : Exchange)
+    → ((a : ℕ) → lastHeard a before ≡ lastHeard a also)
+    → StopsAfter before e
+    → StopsAfter also e
+stops-same before also e last t a ns sdu h =
+    subst (λ (x : Option Bool). Stops a x ns sdu (e .records)) (last a) (t a ns sdu h)

@@ -11,14 +11,15 @@ use lib.Seq.{take-all}
 use Rattle.lists.specs.Lists.{all}
 use Rattle.tdma_time.specs.Slots.{valid, first}
 use Rattle.llc_rule.specs.Messages.{free, taken}
-use Rattle.llc_state.specs.Ranges.{ifThere, sentInRange, progressInRange, entryInRange, messageInRange, udataInRange, placeInRange, headInRange, stateInRange}
+use Rattle.llc_state.specs.Ranges.{ifThere, sentInRange, progressInRange, entryInRange, messageInRange, udataInRange, rowInRange, placeInRange, headInRange, stateInRange}
 use Rattle.llc_state.specs.States.{noProgress}
 use Rattle.llc_state.specs.Receipts.{receiptOf}
-use Rattle.llc_state.specs.View.{frameAt, sentIn, messageIn, placeIn, linkIn}
-use Rattle.llc_state.specs.InUse.{usedSent, usedProgress, usedOf, usedMessage, usedUdata, usedPlace, used}
+use Rattle.llc_state.specs.View.{frameAt, sentIn, messageIn, placeIn, rowIn, linkIn}
+use Rattle.llc_state.specs.InUse.{usedSent, usedProgress, usedOf, usedMessage, usedUdata, usedPlace, usedRow, used}
 use Rattle.llc_state.specs.declared.Progress.{Progress}
 use Rattle.llc_state.specs.declared.Entry.{Entry}
 use Rattle.llc_state.specs.declared.ReceiptPlace.{ReceiptPlace}
+use Rattle.llc_state.specs.declared.LinkSendSeq.{LinkSendSeq}
 use Rattle.llc_state.specs.declared.State.{State}
 
 -- A value that is asked, or read, only where a flag says that it is there.
@@ -69,6 +70,10 @@ place-asked : (p : ReceiptPlace) → placeInRange (usedPlace p) ≡ placeInRange
 unfolding placeInRange
 place-asked p = there-same (p .taken) (λ (n : ℕ). ltb n 5) (p .state) 0
 
+row-asked : (r : LinkSendSeq) → rowInRange (usedRow r) ≡ rowInRange r
+unfolding rowInRange
+row-asked r = refl
+
 pub used-asked : (s : State) → stateInRange (used s) ≡ stateInRange s
 unfolding stateInRange headInRange used
 used-asked s =
@@ -78,7 +83,8 @@ used-asked s =
       take-made usedUdata (s .«n_udata») (s .«outbound_udata_messages»),
       all-same usedUdata udataInRange udata-asked (take (s .«n_udata») (s .«outbound_udata_messages»)),
       take-twice (s .«n_acks») (s .«scheduled_out_acks»),
-      take-twice (s .«n_rows») (s .«link_send_seq»),
+      take-made usedRow (s .«n_rows») (s .«link_send_seq»),
+      all-same usedRow rowInRange row-asked (take (s .«n_rows») (s .«link_send_seq»)),
       all-same usedPlace placeInRange place-asked (s .receipts),
     )
 
@@ -111,6 +117,10 @@ place-seen p = by-flag (p .taken)
     by-flag true = refl
     by-flag false = refl
 
+row-seen : (r : LinkSendSeq) → rowIn (usedRow r) ≡ rowIn r
+unfolding rowIn
+row-seen r = rw (some-same (r .«has_last_ns») (r .«last_ns») false)
+
 pub used-seen : (s : State) (store : List ℕ) → linkIn (used s) store ≡ linkIn s store
 unfolding linkIn used
 used-seen s store =
@@ -120,6 +130,7 @@ used-seen s store =
       take-made usedUdata (s .«n_udata») (s .«outbound_udata_messages»),
       map-same usedUdata (sentIn store) (udata-seen store) (take (s .«n_udata») (s .«outbound_udata_messages»)),
       take-twice (s .«n_acks») (s .«scheduled_out_acks»),
-      take-twice (s .«n_rows») (s .«link_send_seq»),
+      take-made usedRow (s .«n_rows») (s .«link_send_seq»),
+      map-same usedRow rowIn row-seen (take (s .«n_rows») (s .«link_send_seq»)),
       map-same usedPlace placeIn place-seen (s .receipts),
     )

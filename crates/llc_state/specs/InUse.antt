@@ -9,6 +9,7 @@ use Rattle.llc_state.specs.declared.TmaUnitdataReq.{TmaUnitdataReq}
 use Rattle.llc_state.specs.declared.Progress.{Progress}
 use Rattle.llc_state.specs.declared.Entry.{Entry}
 use Rattle.llc_state.specs.declared.ReceiptPlace.{ReceiptPlace}
+use Rattle.llc_state.specs.declared.LinkSendSeq.{LinkSendSeq}
 use Rattle.llc_state.specs.declared.State.{State}
 
 -- What of the values that are handed down is in use, and of how far an acknowledged message has come.
@@ -53,6 +54,10 @@ abbrev pub usedPlace : ReceiptPlace → ReceiptPlace
 usedPlace p =
     record { taken = p .taken; «expects_ack» = cond (p .taken) (p .«expects_ack») false; state = cond (p .taken) (p .state) 0 }
 
+abbrev pub usedRow : LinkSendSeq → LinkSendSeq
+usedRow r =
+    record { ssi = r .ssi; vs = r .vs; «has_last_ns» = r .«has_last_ns»; «last_ns» = cond (r .«has_last_ns») (r .«last_ns») false }
+
 unfoldable pub used : State → State
 used s =
     record {
@@ -68,5 +73,5 @@ used s =
       «scheduled_out_acks» = take (s .«n_acks») (s .«scheduled_out_acks»);
       receipts = map usedPlace (s .receipts);
       «n_rows» = s .«n_rows»;
-      «link_send_seq» = take (s .«n_rows») (s .«link_send_seq»);
+      «link_send_seq» = map usedRow (take (s .«n_rows») (s .«link_send_seq»));
     }

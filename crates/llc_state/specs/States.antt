@@ -47,8 +47,12 @@ noAck = record { ssi = 0; «ssi_type» = 0; «carrier_num» = 0; nr = false; ts 
 abbrev pub noReceipt : ReceiptPlace
 noReceipt = record { taken = false; «expects_ack» = false; state = 0 }
 
+-- A row of an SSI that has sent and heard nothing, and one that is not in use.
+abbrev pub newSeq : ℕ → LinkSendSeq
+newSeq ssi = record { ssi = ssi; vs = false; «has_last_ns» = false; «last_ns» = false }
+
 abbrev pub noRow : LinkSendSeq
-noRow = record { ssi = 0; vs = false }
+noRow = newSeq 0
 
 -- A state that holds nothing, at the first time.
 unfoldable pub emptyState : Bool → ℕ → ℕ → State

@@ -70,7 +70,7 @@ unfoldable pub placeIn : ReceiptPlace → Place
 placeIn p = cond (p .taken) (taken (receiptOf p)) free
 
 abbrev pub numbersIn : LinkSendSeq → Numbers
-numbersIn r = record { bit = r .vs }
+numbersIn r = record { bit = r .vs; last = cond (r .«has_last_ns») (some (r .«last_ns»)) none }
 
 unfoldable pub rowIn : LinkSendSeq → Row
 rowIn r = rowWith (r .ssi) (numbersIn r)

@@ -103,13 +103,17 @@ pub struct ReceiptPlace {
     pub state: u8,
 }
 
-/// The send sequence variable of an SSI.
+/// An address row: the send sequence variable of an SSI, and the last N(S) accepted from it.
 #[repr(C)]
 pub struct LinkSendSeq {
     /// The address.
     pub ssi: u32,
     /// The N(S) of its next message.
     pub vs: bool,
+    /// Was a frame with an N(S) accepted from it?
+    pub has_last_ns: bool,
+    /// The N(S) of the last one, if there was one.
+    pub last_ns: bool,
 }
 
 /// The link. The counts stand together, in front of the arrays.

@@ -1,7 +1,7 @@
 // The states that the link begins with, and the state at another time.
 ghost use mathlib.Core.Path.{_≡_};
 ghost use Rattle.llc_state.specs.Progress.{newProgress};
-ghost use Rattle.llc_state.specs.States.{noEntry, noAck, noReceipt, noRow, newState, startedState, atTime};
+ghost use Rattle.llc_state.specs.States.{noEntry, noAck, noReceipt, newSeq, newState, startedState, atTime};
 use crate::Entry;
 use crate::FramePlace;
 use crate::LinkSendSeq;
@@ -67,7 +67,12 @@ const NO_RECEIPT: ReceiptPlace = ReceiptPlace {
     state: 0,
 };
 
-const NO_ROW: LinkSendSeq = LinkSendSeq { ssi: 0, vs: false };
+const NO_ROW: LinkSendSeq = LinkSendSeq {
+    ssi: 0,
+    vs: false,
+    has_last_ns: false,
+    last_ns: false,
+};
 
 /// The new state: empty and not started.
 pub const NEW: State = State {
@@ -125,11 +130,11 @@ impl ReceiptPlace {
 }
 
 impl LinkSendSeq {
-    /// A row that is not in use.
-    pub fn empty() -> LinkSendSeq
-        ensures { λ r. ⌜ r ≡ noRow ⌝ }
+    /// The row of an SSI that has sent and heard nothing.
+    pub fn new(ssi: u32) -> LinkSendSeq
+        ensures { λ r. ⌜ r ≡ newSeq ssi ⌝ }
     {
-        NO_ROW
+        LinkSendSeq { ssi, ..NO_ROW }
     }
 }
 

@@ -7,7 +7,7 @@ use mathlib.Core.Option.{Option, none, some}
 use lib.Dec.{eqb, ltb}
 use lib.ListN.{length-map}
 use Rattle.lists.specs.Lists.{Found, nothing, first}
-use Rattle.lists.proofs.Choices.{ap-cond}
+use Rattle.lists.proofs.Choices.{by-test, ap-cond}
 use Rattle.questions.specs.Outcome.{Outcome, accepted, refused, ask}
 use Rattle.tx_receipt.specs.States.{is, final}
 use Rattle.tx_receipt.specs.Marks as Marks
@@ -22,18 +22,22 @@ use Rattle.llc_rule.specs.Messages as Rule
 use Rattle.llc_rule.specs.Messages.{Message, markOf}
 use Rattle.llc_rule.specs.Done.{Done, done}
 use Rattle.llc_rule.specs.Keeps as Keeps
+use Rattle.llc_rule.specs.Keeps.{Numbers}
 use Rattle.llc_rule.specs.Link as Link
 use Rattle.llc_rule.specs.Step as Step
-use Rattle.llc_state.specs.View.{sentIn, messageIn, dueIn, linkIn}
+use Rattle.llc_state.specs.View.{sentIn, messageIn, dueIn, numbersIn, rowIn, linkIn}
 use Rattle.llc_state.specs.declared.Entry.{Entry}
+use Rattle.llc_state.specs.declared.ScheduledOutAck.{ScheduledOutAck}
+use Rattle.llc_state.specs.declared.LinkSendSeq.{LinkSendSeq}
 use Rattle.llc_state.specs.declared.State.{State}
 use Rattle.llc_state.specs.Receipts.{markReceipt}
 use Rattle.llc_state.proofs.Places.{taken-in, mark-receipt-in, free-receipt-in}
 use Rattle.llc_state.proofs.Maps.{map-append, mapFound, find-map, any-map}
-use Rattle.llc_steps.specs.States.{messagesOf, udataOf, acksOf, withMessages, withAcks, Kept}
-use Rattle.llc_steps.specs.Calls.{ackRoom, scheduled, expected, fits, finishable, mayFinish, answeredBy, answered, onReceived, held, waits, onReport, onRelease, onReceipt}
+use Rattle.llc_steps.specs.States.{messagesOf, udataOf, acksOf, rowsOf, withMessages, withAcks, Kept}
+use Rattle.llc_steps.specs.Calls.{seqOf, heardSeq, rowIfNumbered, ackRoom, scheduled, heardRows, numbered, repeats, isRepeat, expected, fits, finishable, mayFinish, answeredBy, answered, onReceived, held, waits, onReport, onRelease, onReceipt}
 use Rattle.llc_steps.specs.Holds.{keptIn, Counted}
-use Rattle.llc_steps.proofs.Setters.{messages-in, acks-in}
+use Rattle.llc_steps.proofs.Setters.{messages-in, acks-in, rows-in}
+use Rattle.llc_steps.proofs.Rows.{seq-in, with-seq-in, row-in}
 use Rattle.llc_steps.proofs.TickEnd.{has-time}
 
 -- A question that is asked alike of a state and of the link that it holds, and then what they leave.
@@ -76,16 +80,18 @@ module _ (s : State) (store : List ℕ) where
   by-receipt-in i release = release-in i
 
 -- Frames.
+last-by : (ns : Bool) (w : LinkSendSeq) → repeats ns w ≡ Step.isLast ns (numbersIn w .last)
+last-by ns w = by-test (w .«has_last_ns») (λ t. rw t) (λ t. rw t)
+
 module _ (f : Frame) (s : State) (store : List ℕ) where
+  row-in-frame : Counted s → (x : Option Bool) → rowIfNumbered (f .ssi) x s ≡ Step.rowForFrame f x (linkIn s store)
+  row-in-frame ok none = refl
+  row-in-frame ok (some ns) = row-in (f .ssi) s store ok
+
   room-in : Counted s → (x : Option Bool) → ackRoom x s ≡ Step.dueRoom x (linkIn s store)
   unfolding linkIn
   room-in ok none = refl
   room-in ok (some ns) = ap (λ (n : ℕ). ltb n 64) (sym (length-map (acksOf s) dueIn ∙ ok .acks))
-
-  scheduled-in : (x : Option Bool) → map dueIn (scheduled f x s) ≡ Step.withDue f x (linkIn s store)
-  unfolding linkIn dueIn
-  scheduled-in none = refl
-  scheduled-in (some ns) = map-append dueIn (acksOf s) _
 
   expected-in : Step.awaiting f (linkIn s store) ≡ mapFound (messageIn store) (expected f s)
   unfolding Step.awaiting expected linkIn messageIn sentIn
@@ -108,10 +114,30 @@ module _ (f : Frame) (s : State) (store : List ℕ) where
   may-finish-in (some nr) =
       finishable-in nr (expected f s) ∙ ap (λ (x : Found Message). Step.finishable nr x (linkIn s store)) (sym expected-in)
 
-  due-in :
-      (x : Option Bool)
-      → linkIn (withAcks s (scheduled f x s)) store ≡ Keeps.dueNow (linkIn s store) (Step.withDue f x (linkIn s store))
-  due-in x = acks-in s store (scheduled f x s) ∙ ap (Keeps.dueNow (linkIn s store)) (scheduled-in x)
+  scheduled-in : (ns : Bool) → map dueIn (scheduled (f .ssi) (f .type) (f .carrier) ns s) ≡ Step.withDue f ns (linkIn s store)
+  unfolding linkIn dueIn
+  scheduled-in ns = map-append dueIn (acksOf s) _
+
+  heard-rows-in : (ns : Bool) → map rowIn (heardRows (f .ssi) ns s) ≡ Step.withHeard f ns (linkIn s store)
+  unfolding linkIn
+  heard-rows-in ns =
+      with-seq-in (f .ssi) (heardSeq (f .ssi) ns (seqOf (f .ssi) (rowsOf s))) (rowsOf s) refl
+      ∙ ap (λ (n : Numbers). Link.withNumbers (f .ssi) (Keeps.withLast n ns) (map rowIn (rowsOf s))) (sym (seq-in (f .ssi) (rowsOf s)))
+
+  numbered-in : (x : Option Bool) → linkIn (numbered (f .ssi) (f .type) (f .carrier) x s) store ≡ Step.numbered f x (linkIn s store)
+  numbered-in none = refl
+  numbered-in (some ns) =
+      let ds : List ScheduledOutAck = scheduled (f .ssi) (f .type) (f .carrier) ns s in
+      rows-in (withAcks s ds) store (heardRows (f .ssi) ns s)
+      ∙ ap₂ Keeps.withRows
+      (acks-in s store ds ∙ ap (Keeps.dueNow (linkIn s store)) (scheduled-in ns))
+      (heard-rows-in ns)
+
+  repeat-in : (x : Option Bool) → isRepeat (f .ssi) x s ≡ Step.isRepeat f x (linkIn s store)
+  unfolding linkIn
+  repeat-in none = refl
+  repeat-in (some ns) =
+      last-by ns (seqOf (f .ssi) (rowsOf s)) ∙ ap (λ (n : Numbers). Step.isLast ns (n .last)) (sym (seq-in (f .ssi) (rowsOf s)))
 
   answered-by-in :
       (nr : Bool) (x : Found Entry)
@@ -141,9 +167,12 @@ received-in f s store ok (refused n) = refl
 received-in f s store ok (accepted r) =
     let ns : Option Bool = nsOf (r .header) in
     let nr : Option Bool = nrOf (r .header) in
+    kept-ask 7 _ (row-in-frame f s store ok ns)
+    (λ row.
     kept-ask 13 _ (room-in f s store ok ns)
     (λ room.
     kept-ask 14 _ (may-finish-in f s store nr)
     (λ may.
-    ap (λ (l : Link.Link). accepted (done l (upward f (r .header) (r .sdu))))
-    (answered-in f (withAcks s (scheduled f ns s)) store nr ∙ ap (Step.answered f nr) (due-in f s store ns))))
+    ap₂ (λ (l : Link.Link) (b : Bool). accepted (done l (cond b [] (upward f (r .header) (r .sdu)))))
+    (answered-in f (numbered (f .ssi) (f .type) (f .carrier) ns s) store nr ∙ ap (Step.answered f nr) (numbered-in f s store ns))
+    (repeat-in f s store ns))))

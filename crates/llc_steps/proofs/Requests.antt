@@ -2,7 +2,7 @@
 use Prim.Native.Nat.{ℕ, _+_, _-_, _≤_, _<_}
 use native.Mathlib.Omega.{arith}
 use mathlib.Core.Path.{_≡_, _∙_, refl, sym, ap, ap₂}
-use mathlib.Core.Bool.{Bool, true, false, cond, not, _&&_, _||_}
+use mathlib.Core.Bool.{Bool, true, false, cond, not, _&&_}
 use mathlib.Core.List.{List, [], _∷_, _++_, map}
 use borrow.Author.Tests.{ltb-true}
 use lib.Dec.{eqb, ltb}
@@ -37,11 +37,11 @@ use Rattle.llc_state.specs.declared.ReceiptPlace.{ReceiptPlace}
 use Rattle.llc_state.specs.declared.LinkSendSeq.{LinkSendSeq}
 use Rattle.llc_state.specs.declared.State.{State}
 use Rattle.llc_state.specs.Receipts.{takeReceipt, placeOf}
-use Rattle.llc_state.proofs.Maps.{map-append, mapFound, find-map, any-map, others-map}
+use Rattle.llc_state.proofs.Maps.{map-append, mapFound, find-map, others-map}
 use Rattle.llc_state.proofs.Places.{place-in, take-receipt-in}
 use Rattle.llc_steps.specs.States.{messagesOf, udataOf, acksOf, rowsOf, withMessages, withUdata, withAcks}
 use Rattle.llc_steps.specs.Places.{freePlace}
-use Rattle.llc_steps.specs.Calls.{entryOf, carrierFor, ackFor, seqOf, withSeq, nextSeq, dataPdu, withAcknowledged, withUnacknowledged, withStolen, receiptFree, rowFor, onData, onUnitdata, onRequest}
+use Rattle.llc_steps.specs.Calls.{entryOf, carrierFor, ackFor, seqOf, withSeq, nextSeq, dataPdu, withAcknowledged, withUnacknowledged, withStolen, receiptFree, onData, onUnitdata, onRequest}
 use Rattle.llc_steps.specs.Holds.{keptIn, Stored, Ready}
 use Rattle.llc_steps.proofs.Setters.{messages-in, udata-in, acks-in, rows-in}
 use Rattle.llc_steps.proofs.Places.{free-place, part-there, frame-elsewhere}

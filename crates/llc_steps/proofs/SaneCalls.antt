@@ -27,14 +27,14 @@ use Rattle.llc_rule.specs.Limits.{longestFrame}
 use Rattle.llc_rule.specs.Calls.{Action, report, release, Frame}
 use Rattle.llc_rule.specs.Messages.{slotBefore, markOf}
 use Rattle.llc_rule.specs.Ranges.{isType, frameInRange}
-use Rattle.llc_state.specs.Ranges.{ackInRange, messageInRange}
+use Rattle.llc_state.specs.Ranges.{ackInRange, messageInRange, rowInRange}
 use Rattle.llc_state.specs.Receipts.{receiptOf, placeOf}
 use Rattle.llc_state.specs.declared.Entry.{Entry}
 use Rattle.llc_state.specs.declared.State.{State}
-use Rattle.llc_steps.specs.States.{messagesOf, acksOf, withAcks}
-use Rattle.llc_steps.specs.Calls.{ackRoom, scheduled, expected, fits, mayFinish, answeredBy, answered, onReceived, held, waits, onReport, onRelease, onReceipt}
+use Rattle.llc_steps.specs.States.{messagesOf, acksOf, rowsOf}
+use Rattle.llc_steps.specs.Calls.{seqOf, heardSeq, rowIfNumbered, ackRoom, numbered, expected, fits, mayFinish, answeredBy, answered, onReceived, held, waits, onReport, onRelease, onReceipt}
 use Rattle.llc_steps.specs.Sane.{Sane, SaneAfter}
-use Rattle.llc_steps.proofs.SaneSetters.{Used, one-more, found-first, behind-first, sane-ready, places-full, marked-full, freed-full, messages-used, acks-used, messages-sane, acks-sane, places-sane}
+use Rattle.llc_steps.proofs.SaneSetters.{one-more, found-first, behind-first, sane-ready, places-full, marked-full, freed-full, messages-used, acks-used, row-written, messages-sane, acks-sane, places-sane, rows-sane}
 
 -- Frames ------------------------------------------------------------------------------------------------------------------
 
@@ -62,7 +62,7 @@ module _ (s : State) (store : List ℕ) (ok : Sane s store) where
   answered-sane f (some nr) = answered-by-sane nr _ (expected f s) (find-by _ (messagesOf s))
 
 module _ (f : Frame) (s : State) (store : List ℕ) (ok : Sane s store) (ssi : f .ssi < 16777216) (h : frameInRange f ≡ true) where
-  -- The new acknowledgement due is in range, and there is room for it.
+  -- The new acknowledgement due and the row are in range, and there is room for them.
   type-in-range : isType (f .type) ≡ true
   unfolding frameInRange
   type-in-range = both {y = leb (length (f .block)) 64} (both {y = leb (length (f .pdu)) longestFrame} h .0) .0
@@ -75,22 +75,31 @@ module _ (f : Frame) (s : State) (store : List ℕ) (ok : Sane s store) (ssi : f
       let t = slot-in-range (s .dltime) in
       rw (lt-ltb (f .ssi) 16777216 ssi, type-in-range, le-leb 1 (slotBefore (s .dltime)) (t .0), le-leb (slotBefore (s .dltime)) 4 (t .1))
 
-  scheduled-used : (x : Option Bool) → ackRoom x s ≡ true → Used ackInRange 64 (scheduled f x s)
-  scheduled-used none room = acks-used s store ok
-  scheduled-used (some ns) room =
-      one-more ackInRange 64 (acksOf s) _
-      (omega (arith, ltb-true (s .«n_acks») 64 room, sane-ready s store ok .counted .acks)) (new-in-range ns) (acks-used s store ok)
+  numbered-sane :
+      (x : Option Bool)
+      → rowIfNumbered (f .ssi) x s ≡ true
+      → ackRoom x s ≡ true
+      → Sane (numbered (f .ssi) (f .type) (f .carrier) x s) store
+  unfolding rowInRange
+  numbered-sane none row room = ok
+  numbered-sane (some ns) row room =
+      rows-sane
+      (acks-sane ok
+      (one-more ackInRange 64 (acksOf s) _
+      (omega (arith, ltb-true (s .«n_acks») 64 room, sane-ready s store ok .counted .acks)) (new-in-range ns) (acks-used s store ok)))
+      (row-written s store ok (f .ssi) (heardSeq (f .ssi) ns (seqOf (f .ssi) (rowsOf s))) row (lt-ltb (f .ssi) 16777216 ssi))
 
   pub received-sane : (x : Outcome Received) → SaneAfter (onReceived f x s store)
   unfolding onReceived
   received-sane (refused n) = tt
   received-sane (accepted r) =
-      by-question SaneAfter 13 (ackRoom (nsOf (r .header)) s) tt
+      let ns : Option Bool = nsOf (r .header) in
+      by-question SaneAfter 7 (rowIfNumbered (f .ssi) ns s) tt
+      (λ row.
+      by-question SaneAfter 13 (ackRoom ns s) tt
       (λ room.
       by-question SaneAfter 14 (mayFinish f (nrOf (r .header)) s) tt
-      (λ may.
-      answered-sane (withAcks s (scheduled f (nsOf (r .header)) s)) store (acks-sane ok (scheduled-used (nsOf (r .header)) room)) f
-      (nrOf (r .header))))
+      (λ may. answered-sane (numbered (f .ssi) (f .type) (f .carrier) ns s) store (numbered-sane ns row room) f (nrOf (r .header)))))
 
 -- Reports and releases ----------------------------------------------------------------------------------------------------
 

@@ -2,14 +2,14 @@
 use Prim.Native.Nat.{ℕ, _+_, _≤_, _<_}
 use native.Mathlib.Omega.{arith}
 use mathlib.Core.Path.{_≡_, _∙_}
-use mathlib.Core.Bool.{Bool, true, false, not}
+use mathlib.Core.Bool.{Bool, true, false}
 use mathlib.Core.List.{List}
 use borrow.Author.Tests.{ltb-true, lt-ltb}
 use lib.Dec.{ltb}
 use lib.ListN.{length}
-use Rattle.lists.specs.Lists.{any, Found, nothing, first, others}
+use Rattle.lists.specs.Lists.{Found, nothing, first, others}
 use Rattle.lists.proofs.Lists.{find-by}
-use Rattle.lists.proofs.Choices.{by-test, either}
+use Rattle.lists.proofs.Choices.{either}
 use Rattle.questions.specs.Outcome.{accepted}
 use Rattle.questions.proofs.Asked.{by-question}
 use Rattle.bits.specs.Bits.{splice}
@@ -27,7 +27,6 @@ use Rattle.llc_rule.proofs.Ranges.{request-fields, request-lengths}
 use Rattle.llc_state.specs.Ranges.{sentInRange, entryInRange, messageInRange, udataInRange, ackInRange, rowInRange}
 use Rattle.llc_state.specs.View.{placeBit}
 use Rattle.llc_state.specs.declared.ScheduledOutAck.{ScheduledOutAck}
-use Rattle.llc_state.specs.declared.LinkSendSeq.{LinkSendSeq}
 use Rattle.llc_state.specs.declared.State.{State}
 use Rattle.llc_state.proofs.InRange.{there-holds, new-fits, message-holds, udata-holds}
 use Rattle.llc_steps.specs.States.{messagesOf, udataOf, acksOf, rowsOf, Kept}

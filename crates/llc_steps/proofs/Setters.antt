@@ -4,7 +4,6 @@ use mathlib.Core.Path.{_≡_, refl, ap}
 use mathlib.Core.List.{List, map}
 use Rattle.lists.proofs.Arrays.{take-laid}
 use Rattle.llc_rule.specs.Keeps as Keeps
-use Rattle.llc_rule.specs.Link as Link
 use Rattle.llc_state.specs.Receipts.{withPlaces}
 use Rattle.llc_state.specs.View.{sentIn, messageIn, dueIn, placeIn, rowIn, linkIn}
 use Rattle.llc_state.specs.declared.Entry.{Entry}

@@ -23,7 +23,7 @@ use Rattle.llc_rule.specs.Ranges.{steals, wantsFcs, hasMask}
 use Rattle.llc_rule.specs.Upward.{upward}
 use Rattle.llc_rule.specs.Messages.{carrierOf, slotBefore, markOf}
 use Rattle.llc_rule.specs.Step.{onAcknowledgedPath}
-use Rattle.llc_state.specs.States.{noReceipt}
+use Rattle.llc_state.specs.States.{noReceipt, newSeq}
 use Rattle.llc_state.specs.Progress.{newProgress}
 use Rattle.llc_state.specs.Receipts.{withPlaces, receiptOf, pendingPlace, placeOf, mark}
 use Rattle.llc_state.specs.View.{placeBit}
@@ -71,9 +71,6 @@ ackFor r s = find (λ (d : ScheduledOutAck). eqb (d .ssi) (r .ssi) && eqb (d .«
 abbrev pub rowOf : ℕ → LinkSendSeq → Bool
 rowOf ssi r = eqb (r .ssi) ssi
 
-abbrev pub newSeq : ℕ → LinkSendSeq
-newSeq ssi = record { ssi = ssi; vs = false }
-
 abbrev pub seqOf : ℕ → List LinkSendSeq → LinkSendSeq
 seqOf ssi rs = firstOr (rowOf ssi) (newSeq ssi) rs
 
@@ -81,9 +78,12 @@ seqOf ssi rs = firstOr (rowOf ssi) (newSeq ssi) rs
 abbrev pub withSeq : ℕ → LinkSendSeq → List LinkSendSeq → List LinkSendSeq
 withSeq ssi w rs = filed (rowOf ssi) w rs
 
--- get_next_send_seq: the row of an SSI when its bit was taken.
+-- get_next_send_seq: the row of an SSI when its bit was taken; and when a frame with an N(S) was accepted.
 abbrev pub nextSeq : ℕ → LinkSendSeq → LinkSendSeq
-nextSeq ssi w = record { ssi = ssi; vs = not (w .vs) }
+nextSeq ssi w = record { ssi = ssi; vs = not (w .vs); «has_last_ns» = w .«has_last_ns»; «last_ns» = w .«last_ns» }
+
+abbrev pub heardSeq : ℕ → Bool → LinkSendSeq → LinkSendSeq
+heardSeq ssi ns w = record { ssi = ssi; vs = w .vs; «has_last_ns» = true; «last_ns» = ns }
 
 abbrev pub dataPdu : Request → Bool → Found ScheduledOutAck → Pdu
 dataPdu r ns (Lists.first d ds) = BlAdata (wantsFcs r) (d .nr) ns
@@ -146,16 +146,36 @@ onRequest tlUnitdata r s b = onUnitdata r s b
 
 -- Frames ------------------------------------------------------------------------------------------------------------------
 
+-- Questions 7 and 13 of a frame with N(S).
+abbrev pub rowIfNumbered : ℕ → Option Bool → State → Bool
+rowIfNumbered ssi none s = true
+rowIfNumbered ssi (some ns) s = rowFor ssi s
+
 abbrev pub ackRoom : Option Bool → State → Bool
 ackRoom none s = true
 ackRoom (some ns) s = ltb (s .«n_acks») 64
 
--- schedule_outgoing_ack
-abbrev pub scheduled : Frame → Option Bool → State → List ScheduledOutAck
-scheduled f none s = acksOf s
-scheduled f (some ns) s =
+-- schedule_outgoing_ack, and the row of its SSI with its N(S) as the last one.
+abbrev pub scheduled : ℕ → ℕ → ℕ → Bool → State → List ScheduledOutAck
+scheduled ssi type carrier ns s =
     acksOf s
-    ++ (record { ssi = f .ssi; «ssi_type» = f .type; «carrier_num» = f .carrier; nr = ns; ts = slotBefore (s .dltime) } ∷ [])
+    ++ (record { ssi = ssi; «ssi_type» = type; «carrier_num» = carrier; nr = ns; ts = slotBefore (s .dltime) } ∷ [])
+
+abbrev pub heardRows : ℕ → Bool → State → List LinkSendSeq
+heardRows ssi ns s = withSeq ssi (heardSeq ssi ns (seqOf ssi (rowsOf s))) (rowsOf s)
+
+-- What N(S) does, of a frame from an SSI of a type on a carrier.
+abbrev pub numbered : ℕ → ℕ → ℕ → Option Bool → State → State
+numbered ssi type carrier none s = s
+numbered ssi type carrier (some ns) s = withRows (withAcks s (scheduled ssi type carrier ns s)) (heardRows ssi ns s)
+
+-- Is its N(S) the last one accepted from its SSI?
+abbrev pub repeats : Bool → LinkSendSeq → Bool
+repeats ns w = w .«has_last_ns» && Bool·beq (w .«last_ns») ns
+
+abbrev pub isRepeat : ℕ → Option Bool → State → Bool
+isRepeat ssi none s = false
+isRepeat ssi (some ns) s = repeats ns (seqOf ssi (rowsOf s))
 
 -- take_expected_ack_for_ssi
 unfoldable pub expected : Frame → State → Found Entry
@@ -192,10 +212,14 @@ answered f (some nr) s = answeredBy nr (expected f s) s
 unfoldable pub onReceived : Frame → Outcome Received → State → List ℕ → Outcome Kept
 onReceived f (refused n) s b = refused n
 onReceived f (accepted r) s b =
-    ask 13 (ackRoom (nsOf (r .header)) s)
+    ask 7 (rowIfNumbered (f .ssi) (nsOf (r .header)) s)
+    (ask 13 (ackRoom (nsOf (r .header)) s)
     (ask 14 (mayFinish f (nrOf (r .header)) s)
     (accepted
-    (kept (answered f (nrOf (r .header)) (withAcks s (scheduled f (nsOf (r .header)) s))) b (upward f (r .header) (r .sdu)))))
+    (kept
+    (answered f (nrOf (r .header)) (numbered (f .ssi) (f .type) (f .carrier) (nsOf (r .header)) s))
+    b
+    (cond (isRepeat (f .ssi) (nsOf (r .header)) s) [] (upward f (r .header) (r .sdu)))))))
 
 -- Reports and releases ----------------------------------------------------------------------------------------------------
 

@@ -32,3 +32,10 @@ by-question P n false r f = r
 pub accepted-passed : {A : Type 0} (n : ℕ) (b : Bool) {x : A} {rest : Outcome A} → accepted x ≡ ask n b rest → (b ≡ true) × (accepted x ≡ rest)
 accepted-passed n true e = (refl, e)
 accepted-passed n false e = let z : _≡_ {A = ℕ} 0 1 = cc in absurd (omega arith)
+
+-- A question passed, and one failed.
+pub ask-yes : {A : Type 0} (n : ℕ) {b : Bool} (o : Outcome A) → b ≡ true → ask n b o ≡ o
+ask-yes n o e = rw e
+
+pub ask-no : {A : Type 0} (n : ℕ) {b : Bool} (o : Outcome A) → b ≡ false → ask n b o ≡ refused n
+ask-no n o e = rw e

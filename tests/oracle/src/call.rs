@@ -21,6 +21,13 @@ pub struct Request {
     pub bits: Vec<u8>,
 }
 
+impl Request {
+    /// Is a data request like this on the acknowledged path?
+    pub fn is_acknowledged(&self) -> bool {
+        self.kind == 1 && self.flags & 1 == 0
+    }
+}
+
 /// A frame that came in.
 #[derive(Clone)]
 pub struct Frame {

@@ -1,11 +1,14 @@
-//! Faults that can be put into the oracle's own reading of calls, questions and records, to see that a list of calls tells each
-//! of them apart.
-use crate::call::Call;
+//! Faults that can be put into the oracle's own reading of calls, questions, repeats and records, to see that a list of calls
+//! tells each of them apart.
+use crate::bits::Bits;
+use crate::call::{Call, Frame};
 use crate::caught::caught;
-use crate::header;
-use crate::oracle::Oracle;
+use crate::check_sequence::bit;
+use crate::header::{self, Header};
+use crate::oracle::{Oracle, Started};
 use crate::outcome::text;
 use crate::store::lines_of;
+use std::borrow::Cow;
 use std::cell::Cell;
 use std::path::Path;
 
@@ -24,6 +27,44 @@ pub enum Fault {
     FourteenFirst,
     /// 13 is asked before 9 to 12.
     ThirteenFirst,
+    /// Of frames, 7 is asked before 12.
+    SevenBeforeTwelve,
+    /// Of frames, 13 is asked before 7.
+    ThirteenBeforeSeven,
+    /// 7 is not asked of frames.
+    SevenNotAsked,
+    /// 7 is asked of frames of a type without N(S), too.
+    SevenAskedOf(u32),
+    /// 7 of a call with a tag counts the rows of its own kind alone, those of requests or of frames.
+    OwnRowsAlone(u8),
+    /// A frame of a type without N(S) makes a row.
+    RowBy(u32),
+    /// The row that a frame makes has the send bit 1.
+    FrameRowBit,
+    /// No last N(S) is taken for this one, in a row that a request made or where there is no row.
+    NoneIs(u8, bool),
+    /// The last N(S) is that of the last frame of all addresses.
+    LastShared,
+    /// The last N(S)s are kept over a start.
+    KeptOverStart,
+    /// An accepted call of a sort makes the last N(S) forgotten.
+    ForgottenBy(&'static str),
+    /// A frame that is refused with a number makes its N(S) the last.
+    UpdatedBy(u8),
+    /// A frame that is refused with a number makes a row.
+    RowByRefused(u8),
+    /// The first N(S) stays the last.
+    FirstStays,
+    /// Any frame is a repeat where there is a last N(S).
+    AnyIsRepeat,
+    /// A repeat is one only if a part of it is the same too.
+    RepeatNeeds(&'static str),
+    /// A repeat goes up.
+    RepeatUp,
+    /// A repeat is not acknowledged.
+    RepeatUnacknowledged,
+    /// The N(R) of a repeat is passed over.
+    RepeatUnheeded,
     /// The check sequence of a frame of a type is not checked.
     NotChecked(u32),
     /// What a frame of a type sends up has an empty block.
@@ -91,11 +132,86 @@ pub fn cut(kind: u32, has_fcs: bool) -> Option<usize> {
     }
 }
 
+/// Is a frame with the last N(S) the same as the last one, in the part that the fault asks for?
+pub fn is_same(last: &Frame, frame: &Frame) -> bool {
+    let Some(Fault::RepeatNeeds(part)) = FAULT.get() else {
+        return true;
+    };
+    let (Ok(before), Ok(now)) = (read(last), read(frame)) else {
+        return true;
+    };
+    match part {
+        "PDU type" => header::kind(&last.bits) == header::kind(&frame.bits),
+        "N(R)" => before.nr == now.nr,
+        "FCS flag" => before.has_fcs == now.has_fcs,
+        "SDU" => sdu(last, &before) == sdu(frame, &now),
+        "carrier" => last.carrier == frame.carrier,
+        "type" => last.kind == frame.kind,
+        "link" => last.link == frame.link,
+        "endpoint" => last.endpoint == frame.endpoint,
+        _ => last.block == frame.block,
+    }
+}
+
+/// The header of a frame, its check sequence not looked at.
+fn read(frame: &Frame) -> Result<Header, u8> {
+    header::unchecked(&frame.bits, frame.bit_count as usize)
+}
+
+/// The SDU of a frame with a header.
+fn sdu(frame: &Frame, header: &Header) -> Vec<u32> {
+    let end = frame.bit_count as usize - if header.has_fcs { 32 } else { 0 };
+    (header.len..end).map(|at| bit(&frame.bits, at)).collect()
+}
+
+/// An accepted frame as the Rust is given it. A repeat that is not acknowledged is a BL-ACK there if it has an N(R), and else is
+/// not given; one whose N(R) is passed over is a BL-DATA.
+pub fn fed<'a>(started: &Started, frame: &'a Frame) -> Option<Cow<'a, Frame>> {
+    let is_put_in = is(Fault::RepeatUnacknowledged) || is(Fault::RepeatUnheeded);
+    let Some(header) = read(frame).ok().filter(|header| is_put_in && started.is_repeat(frame, header)) else {
+        return Some(Cow::Borrowed(frame));
+    };
+    let (kind, number) = if is(Fault::RepeatUnacknowledged) { (3, header.nr?) } else { (1, header.ns?) };
+    let mut bits = Bits::default();
+    bits.push_value(kind << 1 | number as u32, 5);
+    Some(Cow::Owned(Frame { bit_count: 5, bits: bits.bytes(), ..frame.clone() }))
+}
+
+/// Takes note of a refused frame, if the fault is that.
+pub fn refuse(link: Option<&mut Started>, call: &Call, number: u8) {
+    let (Some(started), Call::Frame(frame)) = (link, call) else {
+        return;
+    };
+    let is_row_made = is(Fault::RowByRefused(number)) && !started.has_row(frame.ssi);
+    if let Ok(Header { ns: Some(ns), .. }) = read(frame)
+        && (is_row_made || is(Fault::UpdatedBy(number)))
+    {
+        started.hear(frame, (!is_row_made).then_some(ns));
+    }
+}
+
+/// Turns N(S) round in the record of an acknowledged message.
+fn flip_ns(record: &mut [u8]) {
+    let mut at = 0;
+    while record[at] != 0x0c {
+        at += 3 + u16::from_be_bytes([record[at + 1], record[at + 2]]) as usize;
+    }
+    let frame = &mut record[at + 5..];
+    frame[0] ^= if header::kind(frame) == 0 { 0x04 } else { 0x08 };
+}
+
 /// Spoils a record that a call gave.
-pub fn spoil(record: &mut Vec<u8>, call: &Call) {
+pub fn spoil(record: &mut Vec<u8>, call: &Call, link: Option<&Started>) {
     let Some(fault) = FAULT.get() else {
         return;
     };
+    let has_made_row = |started: &Started| {
+        let ssi = u32::from_be_bytes([0, record[7], record[8], record[9]]);
+        started.repeats.heard.get(&ssi).is_some_and(|heard| heard.has_made_row)
+    };
+    if fault == Fault::FrameRowBit && record[3] == 1 && link.is_some_and(has_made_row) {
+        flip_ns(record);
+    }
     let kind_up = match call {
         Call::Frame(frame) => Some(header::kind(&frame.bits)),
         _ => None,
@@ -122,6 +238,19 @@ pub fn spoil(record: &mut Vec<u8>, call: &Call) {
 /// Every fault that a list has to tell apart.
 pub fn all() -> Vec<Fault> {
     let mut all = vec![Fault::FourteenFirst, Fault::ThirteenFirst];
+    all.extend([Fault::SevenBeforeTwelve, Fault::ThirteenBeforeSeven, Fault::SevenNotAsked]);
+    all.extend([0x24, 0x26].map(Fault::OwnRowsAlone));
+    all.extend([2, 3].into_iter().flat_map(|kind| [Fault::SevenAskedOf(kind), Fault::RowBy(kind)]));
+    all.extend([Fault::FrameRowBit, Fault::LastShared, Fault::KeptOverStart, Fault::FirstStays, Fault::AnyIsRepeat]);
+    all.extend([Fault::RepeatUp, Fault::RepeatUnacknowledged, Fault::RepeatUnheeded]);
+    all.extend([0, 1].into_iter().flat_map(|ns| [Fault::NoneIs(ns, false), Fault::NoneIs(ns, true)]));
+    all.extend([12, 13, 14].map(Fault::UpdatedBy));
+    all.extend([12, 13].map(Fault::RowByRefused));
+    let forgetting =
+        ["tick start", "tick end", "data request", "unitdata request", "BL-UDATA", "BL-ACK", "repeat", "report", "release"];
+    all.extend(forgetting.map(Fault::ForgottenBy));
+    let parts = ["PDU type", "N(R)", "FCS flag", "SDU", "carrier", "type", "link", "endpoint", "block"];
+    all.extend(parts.map(Fault::RepeatNeeds));
     all.extend((0x00..=0x20).map(|tag| Fault::TagAs(tag, 0x21)));
     all.extend((0x29..=0x2f).map(|tag| Fault::TagAs(tag, 0x28)));
     all.extend((0x21..=0x28).map(|tag| Fault::TagAs(tag | 0x80, tag)));

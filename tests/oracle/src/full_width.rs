@@ -1,9 +1,10 @@
 //! Runs that tell faults apart: every field of every call and record with a value that differs in every byte, each tag and each
-//! value next to the known ones, SDUs of each length at which trimming changes something, and calls that fail two questions.
+//! value next to the known ones, SDUs of each length at which trimming changes something, repeats, calls that fail two questions,
+//! and every row taken.
 use crate::bits::Bits;
 use crate::call::{Call, Frame, Request};
 use crate::hex_line::line_of;
-use crate::oracle::{MESSAGES, ROWS, UNACKNOWLEDGED};
+use crate::oracle::{DUE, MESSAGES, ROWS, UNACKNOWLEDGED};
 
 const CARRIER: u16 = 0x5678;
 const MAIN_CARRIER: u16 = 0x1234;
@@ -86,8 +87,9 @@ fn time(h: u16, m: u8, f: u8, t: u8) -> Call {
 fn fields() -> Vec<Call> {
     let mut calls = vec![Call::Start { carrier: MAIN_CARRIER, t251: T251 }, time(0x01ff, 60, 18, 4)];
     for pdu in 0..4 {
-        for (kind, check) in [(1, 0), (1, 1), (1, 2), (2, 0), (2, 1), (2, 2)] {
-            calls.push(Call::Frame(frame(pdu, kind, pdu, check)));
+        // Each from an address of its own, so that none is a repeat.
+        for (at, (kind, check)) in [(1, 0), (1, 1), (1, 2), (2, 0), (2, 1), (2, 2)].into_iter().enumerate() {
+            calls.push(Call::Frame(frame(pdu + 0x10 * at as u32, kind, pdu, check)));
         }
     }
     calls.extend([
@@ -121,8 +123,91 @@ fn trimmed() -> Vec<Call> {
     let mut calls = vec![Call::Start { carrier: MAIN_CARRIER, t251: T251 }];
     for (pdu, header) in [(0, 6), (1, 5), (2, 4), (3, 5)] {
         let lengths = [0, 1, 7, 8, 9, 2595, 2633 - 32 - header];
-        calls.extend(lengths.map(|length| Call::Frame(frame_with(pdu, 1, pdu, 1, length))));
+        let addresses = (0..).map(|at| pdu + 0x08 * at);
+        calls.extend(addresses.zip(lengths).map(|(address, length)| Call::Frame(frame_with(address, 1, pdu, 1, length))));
     }
+    calls
+}
+
+/// A frame of a type with these numbers, with nothing in it that need not be.
+fn numbered(address: u32, pdu: u32, nr: u32, ns: u32) -> Frame {
+    let mut bits = Bits::default();
+    bits.push_value(pdu, 4);
+    let (numbers, width) = [(nr << 1 | ns, 2), (ns, 1), (0, 0), (nr, 1)][pdu as usize];
+    bits.push_value(numbers, width);
+    Frame { block: Vec::new(), bit_count: bits.len() as u16, bits: bits.bytes(), ..frame(address, 1, pdu, 0) }
+}
+
+/// Repeats that differ from the frame before in one part alone, and behind calls that leave the last N(S) as it was.
+fn repeats() -> Vec<Call> {
+    let data = |address, ns| Call::Frame(numbered(address, 1, 0, ns));
+    let mut calls = vec![Call::Start { carrier: MAIN_CARRIER, t251: T251 }, data(0, 0), data(1, 1)];
+    // The first frames in rows that requests made.
+    calls.extend([Call::Data(short(ssi(2), 2)), data(2, 0), Call::Data(short(ssi(3), 3)), data(3, 1)]);
+    // PDU type, N(R), SDU, FCS flag; carrier, type, link, endpoint, block.
+    let fcs = Frame { block: Vec::new(), ..frame_with(1, 1, 0, 1, 3) };
+    let sdu = Frame { block: Vec::new(), ..frame_with(1, 1, 0, 0, 3) };
+    calls.extend([numbered(1, 0, 0, 1), numbered(1, 0, 1, 1), sdu, fcs].map(Call::Frame));
+    let mut same = numbered(0, 1, 0, 0);
+    let mut other = |change: fn(&mut Frame)| {
+        change(&mut same);
+        Call::Frame(same.clone())
+    };
+    calls.extend([other(|frame| frame.carrier ^= 1), other(|frame| frame.kind = 2), other(|frame| frame.link ^= 1)]);
+    calls.extend([other(|frame| frame.endpoint ^= 1), other(|frame| frame.block.push(1))]);
+    // Other numbers in turn, and another address between.
+    calls.extend([data(0, 1), data(0, 1), data(1, 0), data(0, 1), data(0, 0), data(0, 0)]);
+    // What leaves the last N(S) as it was; the requests are sent, reported and released.
+    let between = [
+        time(1, 1, 1, 1),
+        Call::Data(short(ssi(0), 0)),
+        Call::Unitdata(short(ssi(0), 1)),
+        Call::TickEnd,
+        Call::Report { receipt: 1, value: 1 },
+        Call::Release { receipt: 1 },
+        Call::Frame(numbered(0, 2, 0, 0)),
+        Call::Frame(numbered(0, 3, 1, 0)),
+        data(1, 0),
+    ];
+    calls.extend(between.into_iter().flat_map(|call| [call, data(0, 0)]));
+    // Frames refused with 12 and 14, whose N(S) goes up behind it.
+    calls.extend([Call::Report { receipt: 0, value: 2 }, Call::TickEnd]);
+    calls.push(Call::Frame(frame(0, 1, 1, 2)));
+    calls.extend([data(0, 1), Call::Frame(numbered(0, 0, 0, 0)), data(0, 0)]);
+    // A repeat whose N(R) finishes a message: its receipt can be released.
+    calls.extend([
+        Call::Report { receipt: 2, value: 1 },
+        Call::TickEnd,
+        Call::Frame(numbered(2, 0, 0, 0)),
+        Call::Release { receipt: 2 },
+    ]);
+    // With 64 due, a repeat refused with 13, and N(S) 1, which then goes up, and after a start again.
+    calls.extend((0..DUE as u32 - 1).map(|_| data(4, 0)));
+    calls.extend([data(0, 0), data(0, 1), Call::TickEnd, data(0, 1), Call::TickEnd]);
+    calls.extend([Call::Start { carrier: MAIN_CARRIER, t251: T251 }, data(0, 1)]);
+    // A frame's row has the send bit 0.
+    calls.extend([Call::Data(short(ssi(0), 0)), Call::TickEnd]);
+    calls
+}
+
+/// Every row taken by frames: the last one behind frames that make none, without N(S) or refused with 12 or 13. Then frames of an
+/// address without a row, with FCS and without, and with 64 due.
+fn rows() -> Vec<Call> {
+    let of = |ssi, pdu| Call::Frame(Frame { ssi, ..numbered(0, pdu, 0, 0) });
+    let mut calls = vec![Call::Start { carrier: MAIN_CARRIER, t251: T251 }];
+    for ssi in 0..ROWS as u32 - 1 {
+        calls.push(of(ssi, 1));
+        if ssi as usize % DUE == DUE - 1 {
+            calls.push(Call::TickEnd);
+        }
+    }
+    let last = ROWS as u32 - 1;
+    let unchecked = |ssi| Call::Frame(Frame { ssi, ..frame(0, 1, 1, 2) });
+    calls.extend([of(0x1000, 2), of(0x1001, 3), of(0, 1), of(0x1002, 1), Call::TickEnd, unchecked(0x1003), of(last, 0)]);
+    calls.extend([of(0x1000, 2), of(0x1001, 3), of(0x1002, 1), unchecked(0x1003)]);
+    calls.extend([Call::Data(short(last, 1)), Call::Data(short(0x1004, 2)), Call::TickEnd]);
+    calls.extend((0..DUE as u32).map(|ssi| of(ssi, 1)));
+    calls.extend([of(0x1005, 1), of(0, 1)]);
     calls
 }
 
@@ -171,9 +256,10 @@ fn orders() -> Vec<Call> {
             calls.extend(receipts().map(|receipt| Call::Release { receipt }));
         }
     }
-    // 6 and 7 and 8; 6 and 8; 7 and 8; 8.
+    // 6 and 7 and 8; 6 and 8; 7 and 8; 8. Of frames: 7; none.
     let (new, old) = (0x00ff_ffff, 0x10_0000);
     calls.extend([(new, 5), (old, 5), (new, 0x71), (old, 0x71)].map(|(address, receipt)| Call::Data(short(address, receipt))));
+    calls.extend([new, old].map(|ssi| Call::Frame(Frame { ssi, ..numbered(0, 1, 0, 0) })));
     calls
 }
 
@@ -198,6 +284,7 @@ pub fn lines() -> Vec<Vec<u8>> {
         Call::Release { receipt: 1 },
     ];
     lines.extend(known.into_iter().map(|call| tagged(call.bytes()[0] | 0x80, call)));
-    lines.extend(trimmed().iter().chain(&ranges()).chain(&orders()).map(|call| line_of(&call.bytes())));
+    let runs = [trimmed(), repeats(), ranges(), orders(), rows()];
+    lines.extend(runs.iter().flatten().map(|call| line_of(&call.bytes())));
     lines
 }

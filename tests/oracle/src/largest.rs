@@ -1,8 +1,8 @@
 //! A run whose tick ends give as many and as long records as there can be: every place of every queue is in use. Behind it the
-//! longest frames.
+//! longest frames, and runs in which every row is taken.
 use crate::bits::Bits;
 use crate::call::{Call, Frame, Request};
-use crate::oracle::{DUE, MESSAGES, UNACKNOWLEDGED};
+use crate::oracle::{DUE, MESSAGES, ROWS, UNACKNOWLEDGED};
 use tetra_core::TdmaTime;
 
 /// The carrier.
@@ -29,8 +29,8 @@ fn request(ssi: u32, flags: u8, receipt: u8) -> Call {
     })
 }
 
-/// BL-DATA with N(S) 1 and nothing behind it.
-fn frame(ssi: u32) -> Call {
+/// A frame with five bits.
+fn frame_of(ssi: u32, bits: u8) -> Call {
     Call::Frame(Frame {
         ssi,
         kind: 1,
@@ -39,8 +39,13 @@ fn frame(ssi: u32) -> Call {
         endpoint: 2,
         block: vec![9; 64],
         bit_count: 5,
-        bits: vec![0x18],
+        bits: vec![bits << 3],
     })
+}
+
+/// BL-DATA with N(S) 1 and nothing behind it.
+fn frame(ssi: u32) -> Call {
+    frame_of(ssi, 0b00011)
 }
 
 /// The longest frame of a type, with a right FCS or without one.
@@ -54,7 +59,7 @@ fn longest(pdu: u32, has_fcs: bool) -> Call {
         bits.push_fcs(header);
     }
     Call::Frame(Frame {
-        ssi: pdu,
+        ssi: pdu << 1 | has_fcs as u32,
         kind: 2,
         carrier: CARRIER,
         link: 1,
@@ -83,7 +88,33 @@ fn unacknowledged_and_due() -> Vec<Call> {
     calls
 }
 
-/// The run: all are sent, and then all are sent three times again and are gone. Then the longest frames come in.
+/// Every row taken, so many of them by frames and the others by requests; then calls from and to an SSI that has one, and one
+/// that has none, also with as many due as there can be.
+fn rows(by_frames: u32) -> Vec<Call> {
+    let mut calls = vec![Call::Start { carrier: 1, t251: 4 }];
+    for ssi in 0..ROWS as u32 {
+        if ssi < by_frames {
+            calls.extend([frame(ssi), Call::TickEnd]);
+        } else {
+            calls.extend([request(ssi, 0, 0), Call::TickEnd, Call::Report { receipt: 0, value: 1 }, Call::TickEnd]);
+            // BL-ACK with N(R) 0.
+            calls.extend([frame_of(ssi, 0b00110), Call::Release { receipt: 0 }]);
+        }
+    }
+    let new = ROWS as u32;
+    for (ssi, receipt) in [0, new - 1, new].into_iter().zip(0..) {
+        calls.extend([frame_of(ssi, 0b00010), frame(ssi), request(ssi, 0, receipt)]);
+    }
+    // With an FCS that is not there, BL-UDATA, BL-ACK.
+    calls.extend([0b01010, 0b00101, 0b00110].map(|bits| frame_of(new, bits)));
+    calls.extend([request(new, 1, 3), Call::TickEnd]);
+    calls.extend((0..DUE).map(|_| frame(0)));
+    calls.extend([frame(new), frame(0), frame_of(new, 0b00101), Call::TickEnd]);
+    calls
+}
+
+/// The run: all are sent, and then all are sent three times again and are gone. Then the longest frames come in, and the rows are
+/// taken by frames, by requests and by both.
 pub fn run() -> Vec<Call> {
     let mut calls = vec![Call::Start { carrier: 1, t251: 4 }];
     for at in 0..MESSAGES {
@@ -106,5 +137,6 @@ pub fn run() -> Vec<Call> {
         calls.push(Call::TickEnd);
     }
     calls.extend((0..4).flat_map(|pdu| [longest(pdu, false), longest(pdu, true)]));
+    calls.extend([ROWS as u32, 0, ROWS as u32 / 2].into_iter().flat_map(rows));
     calls
 }

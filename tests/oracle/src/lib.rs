@@ -21,6 +21,8 @@ pub mod outcome;
 pub mod prng;
 pub mod questions;
 pub mod record;
+pub mod repeat_sight;
+pub mod repeats;
 pub mod runner;
 pub mod short_runs;
 pub mod shrink;

@@ -1,13 +1,15 @@
 //! The oracle: what document 01's questions let through goes to the Rust's own link, and what that gives comes back as records,
-//! trimmed where it goes up with FCS.
+//! trimmed where it goes up with FCS, and stopped where it repeats.
 use crate::call::Call;
 use crate::caught::caught;
 use crate::coverage::Coverage;
-use crate::faults;
+use crate::faults::{self, Fault};
 use crate::header;
 use crate::hex_line;
 use crate::message;
 use crate::record;
+use crate::repeat_sight::RepeatSight;
+use crate::repeats::{self, Repeats};
 use crate::sight::{self, FrameSight, TickSight};
 use crate::trim::trim;
 use tetra_config::bluestation::SharedConfig;
@@ -41,6 +43,7 @@ pub struct Started {
     pub llc: Llc,
     pub t251: u16,
     pub now: TdmaTime,
+    pub repeats: Repeats,
 }
 
 /// The oracle's state: the Rust's link, and the receipts.
@@ -48,6 +51,7 @@ pub struct Oracle {
     pub link: Option<Started>,
     pub receipts: Vec<Option<TxReporter>>,
     pub coverage: Coverage,
+    repeat_sight: RepeatSight,
     /// The last call's number.
     pub last: u8,
 }
@@ -68,7 +72,8 @@ pub fn is_under_way(message: &ExpectedInAck, ssi: u32) -> bool {
 impl Oracle {
     /// A new one: not started, and empty.
     pub fn new() -> Oracle {
-        Oracle { link: None, receipts: vec![None; RECEIPTS], coverage: Coverage::default(), last: 0 }
+        let (coverage, repeat_sight) = (Coverage::default(), RepeatSight::default());
+        Oracle { link: None, receipts: vec![None; RECEIPTS], coverage, repeat_sight, last: 0 }
     }
 
     /// The answer to a line of the runner's input.
@@ -103,8 +108,13 @@ impl Oracle {
             Err(number) => answer.number = number,
             Ok(call) => {
                 answer.number = self.number(&call, &mut answer.fault);
+                if let Some(started) = &self.link {
+                    self.repeat_sight.before(started, &call, answer.number, &mut self.coverage);
+                }
                 if answer.number == 0 {
                     self.accept(&call, &mut answer);
+                } else {
+                    faults::refuse(self.link.as_mut(), &call, answer.number);
                 }
             }
         }
@@ -119,8 +129,10 @@ impl Oracle {
                 if self.link.is_some() {
                     self.coverage.count("start of a started link");
                 }
+                let kept = self.link.take().filter(|_| faults::is(Fault::KeptOverStart));
+                let repeats = kept.map_or(Repeats::default(), |before| before.repeats);
                 let llc = Llc::new(SharedConfig::new(*carrier));
-                self.link = Some(Started { llc, t251: *t251, now: TdmaTime::default() });
+                self.link = Some(Started { llc, t251: *t251, now: TdmaTime::default(), repeats });
                 self.receipts = vec![None; RECEIPTS];
                 Some(())
             }
@@ -142,8 +154,7 @@ impl Oracle {
                 fed
             }
             Call::Data(request) => {
-                let is_acknowledged = request.kind == 1 && request.flags & 1 == 0;
-                let reporter = if is_acknowledged { TxReporter::new() } else { TxReporter::new_unacked() };
+                let reporter = if request.is_acknowledged() { TxReporter::new() } else { TxReporter::new_unacked() };
                 self.receipts[request.receipt as usize] = Some(reporter.clone());
                 let llc = &mut self.link.as_mut().unwrap().llc;
                 caught(|| llc.rx_prim(&mut queue, message::data(request, reporter)))
@@ -157,7 +168,8 @@ impl Oracle {
             Call::Frame(frame) => {
                 let started = self.link.as_mut().unwrap();
                 let sight = FrameSight::before(started, frame, &mut self.coverage);
-                let fed = caught(|| started.llc.rx_prim(&mut queue, message::frame(frame)));
+                let frame = faults::fed(started, frame);
+                let fed = caught(|| frame.iter().for_each(|frame| started.llc.rx_prim(&mut queue, message::frame(frame))));
                 if fed.is_some() {
                     sight.after(&started.llc, &mut self.coverage);
                 }
@@ -178,10 +190,12 @@ impl Oracle {
         if let Call::Data(request) = call {
             sight::request(&self.link.as_ref().unwrap().llc, request, &mut self.coverage);
         }
+        let is_repeat = self.link.as_mut().unwrap().note(call);
         while let Some(given) = queue.pop_front() {
-            match self.record_of(given, call) {
+            let left = if is_repeat { repeats::stop(given) } else { Some(given) };
+            match left.map_or(Ok(None), |given| self.record_of(given, call)) {
                 Ok(Some(mut record)) => {
-                    faults::spoil(&mut record, call);
+                    faults::spoil(&mut record, call, self.link.as_ref());
                     answer.records.push(record);
                 }
                 Ok(None) => {}

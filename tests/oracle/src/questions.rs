@@ -1,10 +1,11 @@
-//! Document 01's questions 4 to 16, read plainly. What they are put to is the Rust's own queues and receipts.
+//! Document 01's questions 4 to 16, read plainly. What they are put to is the Rust's own queues and receipts, and the rows with
+//! those that frames made.
 use crate::call::{Call, Frame, Request};
 use crate::caught::caught;
 use crate::faults::{self, Fault};
 use crate::header::{self, Header};
 use crate::message;
-use crate::oracle::{DUE, MESSAGES, Oracle, RECEIPTS, ROWS, Started, UNACKNOWLEDGED, is_on, is_under_way, mark};
+use crate::oracle::{DUE, MESSAGES, Oracle, RECEIPTS, Started, UNACKNOWLEDGED, is_on, is_under_way, mark};
 use tetra_core::TxState;
 use tetra_entities::llc::llc_bs_ms::ExpectedInAck;
 use tetra_entities::{MessageQueue, TetraEntityTrait};
@@ -28,7 +29,7 @@ impl Oracle {
         }
         match call {
             Call::Start { .. } | Call::TickStart { .. } | Call::TickEnd => 0,
-            Call::Data(request) => self.request_number(0x24, request, request.kind == 1 && request.flags & 1 == 0),
+            Call::Data(request) => self.request_number(0x24, request, request.is_acknowledged()),
             Call::Unitdata(request) => self.request_number(0x25, request, false),
             Call::Frame(frame) => self.frame_number(frame, fault),
             Call::Report { receipt, value } => self.report_number(*receipt, *value, fault),
@@ -47,8 +48,7 @@ impl Oracle {
             started.llc.unacknowledged().len() >= UNACKNOWLEDGED
         };
         let is_taken = self.receipts[request.receipt as usize].is_some();
-        let rows = started.llc.rows();
-        let is_rowless = is_acknowledged && !rows.contains_key(&request.ssi) && rows.len() >= ROWS;
+        let is_rowless = is_acknowledged && !started.has_room(tag, request.ssi);
         let first = match faults::asked_first(tag) {
             Some(7) if is_rowless => 7,
             Some(8) if is_full => 8,
@@ -66,13 +66,19 @@ impl Oracle {
         first
     }
 
-    /// Questions 9 to 14. The Rust has to return silently for 9 to 12, and to panic half way for 14.
+    /// Questions 9 to 12, 7, 13 and 14, in this order. The Rust has to return silently for 9 to 12, and to panic half way for 14.
     fn frame_number(&mut self, frame: &Frame, fault: &mut Option<String>) -> u8 {
         let Some(started) = &mut self.link else {
             return 4;
         };
-        if faults::is(Fault::ThirteenFirst) && started.llc.due().len() >= DUE {
+        let is_full = started.llc.due().len() >= DUE;
+        if faults::is(Fault::ThirteenFirst) && is_full {
             return 13;
+        }
+        let has_ns = header::unchecked(&frame.bits, frame.bit_count as usize).is_ok_and(|header| header.ns.is_some());
+        let is_rowless = !started.has_room(0x26, frame.ssi);
+        if faults::is(Fault::SevenBeforeTwelve) && has_ns && is_rowless {
+            return 7;
         }
         let header = match header::read(&frame.bits, frame.bit_count as usize) {
             Ok(header) => header,
@@ -84,21 +90,33 @@ impl Oracle {
                     *fault = Some(format!("the Rust does not return silently where the number is {number}"));
                 }
                 self.coverage.count("the Rust returned silently");
-                if number == 12 && started.llc.due().len() >= DUE {
+                if number == 12 && is_full {
                     self.coverage.count("12 with 64 due");
+                }
+                if number == 12 && has_ns && is_rowless {
+                    self.coverage.count("12 with every row taken");
                 }
                 return number;
             }
         };
         let is_wrong = |m: &ExpectedInAck| m.tx_reporter.get_state() != TxState::Transmitted;
         let is_panic = finished_by(started, frame, &header).is_some_and(is_wrong);
-        if header.ns.is_some() && started.llc.due().len() >= DUE && !(is_panic && faults::is(Fault::FourteenFirst)) {
-            if is_panic {
-                self.coverage.count("13 where N(R) meets a discarded message");
-            }
-            return 13;
+        let is_rowless = is_rowless && (has_ns || faults::is(Fault::SevenAskedOf(header::kind(&frame.bits))));
+        let is_full = is_full && has_ns;
+        let first = match () {
+            _ if is_full && faults::is(Fault::ThirteenBeforeSeven) => 13,
+            _ if is_rowless && !faults::is(Fault::SevenNotAsked) => 7,
+            _ if is_panic && faults::is(Fault::FourteenFirst) => 14,
+            _ if is_full => 13,
+            _ if is_panic => 14,
+            _ => 0,
+        };
+        match first {
+            7 if is_full => self.coverage.count("7 with 64 due"),
+            13 if is_panic => self.coverage.count("13 where N(R) meets a discarded message"),
+            _ => {}
         }
-        if is_panic {
+        if first == 14 {
             let mut copy = started.llc.throw_away();
             let (held, due) = (copy.messages().len(), copy.due().len());
             let fed = caught(|| copy.rx_prim(&mut MessageQueue::new(), message::frame(frame)));
@@ -108,9 +126,8 @@ impl Oracle {
                 *fault = Some("the Rust does not panic half way where the number is 14".into());
             }
             self.coverage.count("the Rust panicked for 14");
-            return 14;
         }
-        0
+        first
     }
 
     /// Question 15. The Rust has to panic on a receipt that is not Pending, and to take the mark of a message that waits.

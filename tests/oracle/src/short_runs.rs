@@ -247,9 +247,52 @@ fn with_fcs() -> Alphabet {
     }
 }
 
+/// Repeats from an address, and another address beside it.
+fn repeats() -> Alphabet {
+    let tick = Call::TickEnd;
+    let start = Call::Start { carrier: MAIN, t251: 2 };
+    let done = vec![data(B, 2), data(A, 1), tick.clone(), sent(1), sent(2), tick.clone()];
+    Alphabet {
+        name: "repeats",
+        start: start.clone(),
+        beginnings: vec![
+            vec![],
+            vec![frame(A, 1, MAIN, "00010")],
+            vec![frame(A, 1, MAIN, "000011"), frame(B, 1, MAIN, "00010")],
+            all(&[&done, &[frame(A, 1, OTHER, "0001110")]]),
+        ],
+        letters: vec![
+            frame(A, 1, MAIN, "00010"),
+            frame(A, 1, OTHER, "000111"),
+            frame(A, 2, MAIN, "00000001"),
+            frame(A, 1, MAIN, "000011"),
+            checked(A, "01010", "1"),
+            checked(A, "01011", ""),
+            frame(A, 1, MAIN, "00101"),
+            ack(A, 0),
+            frame(B, 1, MAIN, "00011"),
+            data(A, 1),
+            tick.clone(),
+            start,
+        ],
+        tail: vec![
+            frame(A, 1, MAIN, "00010"),
+            frame(B, 1, MAIN, "00010"),
+            data(A, 3),
+            tick.clone(),
+            sent(1),
+            sent(3),
+            release(1),
+            frame(A, 1, MAIN, "000001"),
+            time(9),
+            tick,
+        ],
+    }
+}
+
 /// All alphabets.
 pub fn alphabets() -> Vec<Alphabet> {
-    vec![one_address(), three_addresses(), due(), with_fcs()]
+    vec![one_address(), three_addresses(), due(), with_fcs(), repeats()]
 }
 
 impl Alphabet {

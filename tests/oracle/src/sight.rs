@@ -28,7 +28,7 @@ fn sent(llc: &Llc) -> usize {
 impl TickSight {
     /// Looks before a tick end.
     pub fn before(started: &Started, coverage: &mut Coverage) -> TickSight {
-        let Started { llc, t251, now } = started;
+        let Started { llc, t251, now, .. } = started;
         let t251 = *t251 as i32;
         let edges = [(t251, "age T251"), (t251 - 1, "age T251 - 1"), (-1, "age -1"), (-TIME_INT_WRAP / 2, "age -W/2")];
         for done in llc.messages().iter().filter_map(|m| m.t_umac_done) {
@@ -74,12 +74,13 @@ impl TickSight {
 /// The message under way that a frame's N(R) meets behind the front of the queue.
 pub struct FrameSight {
     behind: Option<TxReporter>,
+    is_repeat: bool,
 }
 
 impl FrameSight {
     /// Looks before a frame.
     pub fn before(started: &Started, frame: &Frame, coverage: &mut Coverage) -> FrameSight {
-        let nothing = FrameSight { behind: None };
+        let nothing = FrameSight { behind: None, is_repeat: false };
         if frame.bit_count == 2633 {
             coverage.count("frame of 2,633 bits");
         }
@@ -95,9 +96,13 @@ impl FrameSight {
         let Some(nr) = header.nr else {
             return nothing;
         };
+        let is_repeat = started.is_repeat(frame, &header);
         let messages = started.llc.messages();
         let Some(place) = messages.iter().position(|m| is_under_way(m, frame.ssi)) else {
             coverage.count("N(R) with nothing under way");
+            if is_repeat {
+                coverage.count("repeat with nothing under way");
+            }
             return nothing;
         };
         let message = &messages[place];
@@ -109,11 +114,14 @@ impl FrameSight {
             coverage.count("N(R) that does not fit");
         } else {
             coverage.count("acknowledged");
+            if is_repeat {
+                coverage.count("repeat that acknowledges");
+            }
             if frame.kind == 2 {
                 coverage.count("acknowledged by a group frame");
             }
         }
-        FrameSight { behind: (place > 0).then(|| message.tx_reporter.clone()) }
+        FrameSight { behind: (place > 0).then(|| message.tx_reporter.clone()), is_repeat }
     }
 
     /// Looks after it.
@@ -121,6 +129,9 @@ impl FrameSight {
         let is_first = |reporter: TxReporter| llc.messages().front().is_some_and(|m| m.tx_reporter.is_same(&reporter));
         if self.behind.is_some_and(is_first) {
             coverage.count("moved to the front");
+            if self.is_repeat {
+                coverage.count("repeat that moves to the front");
+            }
         }
     }
 }
@@ -133,7 +144,7 @@ pub fn request(llc: &Llc, request: &Request, coverage: &mut Coverage) {
     if llc.messages().len() == MESSAGES {
         coverage.count("64 messages held");
     }
-    let last = if request.kind == 1 && request.flags & 1 == 0 {
+    let last = if request.is_acknowledged() {
         llc.messages().back().map(|m| &m.retransmission_buf)
     } else {
         llc.unacknowledged().back()

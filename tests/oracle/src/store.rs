@@ -58,10 +58,14 @@ fn beginning(batch: &Batch, list: &[&'static str]) -> Batch {
 }
 
 /// Prints lines of a few runs in which everything wanted comes: again and again the run that brings most for its size. What
-/// comes before their starts goes first, where nothing is started. Behind them the runs that tell faults apart.
+/// comes before their starts goes first, where nothing is started. Behind them the runs that tell faults apart, and what comes in
+/// those is not looked for.
 pub fn print_lines() {
     let runs: Vec<Batch> = (1..=3000).map(run).collect();
-    let (mut missing, mut before, mut behind) = (WANTED.to_vec(), Vec::new(), Vec::new());
+    let telling = Batch::of(&full_width::lines());
+    let brought_there = brought(&telling, WANTED);
+    let mut missing: Vec<_> = WANTED.iter().copied().filter(|what| !brought_there.contains(what)).collect();
+    let (mut before, mut behind) = (Vec::new(), Vec::new());
     while !missing.is_empty() {
         let worth = |batch: &Batch| brought(batch, &missing).len() as f64 / size(batch) as f64;
         let best = runs.iter().max_by(|a, b| worth(a).total_cmp(&worth(b))).unwrap();
@@ -76,7 +80,7 @@ pub fn print_lines() {
         behind.extend_from_slice(&batch.lines[start..]);
         missing.retain(|what| !news.contains(what));
     }
-    behind.extend(full_width::lines());
+    behind.extend(telling.lines);
     for line in before.iter().chain(&behind) {
         println!("{}", std::str::from_utf8(line).unwrap());
     }

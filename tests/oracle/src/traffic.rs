@@ -1,7 +1,7 @@
 //! Calls that make traffic, chosen by what the oracle holds.
 use crate::bits::Bits;
 use crate::call::{Call, Frame, Request};
-use crate::oracle::{Oracle, RECEIPTS};
+use crate::oracle::{Oracle, RECEIPTS, Started};
 use crate::prng::Prng;
 use tetra_core::tdma_time::TIME_INT_WRAP;
 use tetra_core::{TdmaTime, TxState};
@@ -23,6 +23,8 @@ pub struct Station {
     pub discarded_odds: usize,
     /// The next address that has no row yet.
     pub next_fresh: usize,
+    /// Of two such addresses, so many get their row by a frame.
+    pub fresh_frames: usize,
 }
 
 /// Lengths of SDUs at which something changes.
@@ -58,6 +60,7 @@ impl Station {
             block_odds: prng.one_of(&[2, 5, 20]),
             discarded_odds: prng.one_of(&[2, 3, 5, 20]),
             next_fresh: 0,
+            fresh_frames: prng.below(3),
         }
     }
 
@@ -158,10 +161,20 @@ impl Station {
         Call::Data(request)
     }
 
-    /// A data request on the acknowledged path for an address that has no row yet.
+    /// What makes the row of an address that has none yet: a data request on the acknowledged path, or a frame with N(S).
     pub fn fresh(&mut self, oracle: &Oracle, prng: &mut Prng) -> Call {
         self.next_fresh = (self.next_fresh + 1) % self.addresses.len();
-        Call::Data(self.request(self.addresses[self.next_fresh], 1, 0, oracle, prng))
+        let ssi = self.addresses[self.next_fresh];
+        if prng.below(2) < self.fresh_frames {
+            return self.numbered(ssi, prng);
+        }
+        Call::Data(self.request(ssi, 1, 0, oracle, prng))
+    }
+
+    /// A frame with N(S).
+    fn numbered(&self, ssi: u32, prng: &mut Prng) -> Call {
+        let (kind, nr, ns) = (prng.below(2) as u32, prng.below(2) as u8, prng.below(2) as u8);
+        self.frame(ssi, prng.one_of(&self.carriers), kind, nr, ns, prng)
     }
 
     /// A data request that steals or goes to a group.
@@ -335,7 +348,7 @@ impl Station {
     pub fn at_limit(&self, oracle: &Oracle, prng: &mut Prng) -> Call {
         let discarded = |m: &&ExpectedInAck| m.t_umac_done.is_some() && m.tx_reporter.get_state() == TxState::Discarded;
         let discarded: Vec<_> = under_way(oracle).into_iter().filter(discarded).collect();
-        match prng.below(6) {
+        match prng.below(7) {
             0..3 if !discarded.is_empty() => {
                 let message = discarded[prng.below(discarded.len())];
                 self.frame(message.addr.ssi, message.carrier_num, 0, message.ns, prng.below(2) as u8, prng)
@@ -346,11 +359,12 @@ impl Station {
                 request.receipt = any_receipt(oracle, prng);
                 Call::Data(request)
             }
+            5 => self.numbered(self.address(prng), prng),
             _ => self.acknowledged(oracle, prng),
         }
     }
 
-    /// What brings the messages held nearer to their end: report, tick, acknowledgement, release.
+    /// What brings the messages held and what is due nearer to their end: report, tick, acknowledgement, release.
     pub fn drain(&self, oracle: &Oracle, prng: &mut Prng) -> Call {
         let Some(started) = &oracle.link else {
             return self.start(prng);
@@ -363,7 +377,8 @@ impl Station {
         if let Some(message) = done.iter().find(|m| m.tx_reporter.get_state() == TxState::Transmitted) {
             return self.frame(message.addr.ssi, message.carrier_num, 3, message.ns, 0, prng);
         }
-        if !started.llc.messages().is_empty() || !started.llc.unacknowledged().is_empty() {
+        let Started { llc, .. } = started;
+        if !llc.messages().is_empty() || !llc.unacknowledged().is_empty() || !llc.due().is_empty() {
             return if prng.once_in(2) { self.time(oracle, prng) } else { Call::TickEnd };
         }
         self.release(oracle, prng)

@@ -1,8 +1,9 @@
-//! The answer to a line: the call is made, and told from its bytes and the engine's answer alone.
+//! The answer to a line: the call is made, and told from its bytes, the engine's answer and the state before it alone.
 use crate::calls::CallWords;
 use crate::lines::Ended;
 use crate::numbers::Number;
 use crate::records::RecordLines;
+use crate::repeats::Repeat;
 use crate::state::StateLines;
 use crate::words::Hex;
 use wipturay::{Link, Records, Refused};
@@ -26,13 +27,17 @@ impl Run {
         }
     }
 
-    /// Makes a call: its bytes, the call in words, the number, the records, and what the link holds then.
+    /// Makes a call: its bytes, the call in words, the number, the records or why there is none, and what the link holds then.
     fn call(&mut self, bytes: &[u8]) -> String {
+        let repeat = Repeat::of(&self.link, bytes);
         let answer = self.link.call(bytes);
         let refused = answer.as_ref().err().copied();
         let records = RecordLines(answer.unwrap_or(Records::new(&[]))).to_string();
+        let repeat = repeat
+            .filter(|_| refused.is_none())
+            .map_or(String::new(), |repeat| repeat.to_string());
         format!(
-            "call {}\n  {}\n  {}\n{records}{}",
+            "call {}\n  {}\n  {}\n{records}{repeat}{}",
             Hex(bytes),
             CallWords { bytes, refused },
             Number(refused),

@@ -28,7 +28,7 @@ impl Display for CallWords<'_> {
 }
 
 /// A call, with whatever values it has.
-enum Call<'a> {
+pub enum Call<'a> {
     Start { carrier: Carrier, t251: u16 },
     TickStart { h: u16, m: u8, f: u8, t: u8 },
     TickEnd,
@@ -41,7 +41,7 @@ enum Call<'a> {
 
 impl<'a> Call<'a> {
     /// The call that bytes spell: a tag, a length of two bytes, and a value that is taken apart to its end.
-    fn read(bytes: &'a [u8]) -> Option<Call<'a>> {
+    pub fn read(bytes: &'a [u8]) -> Option<Call<'a>> {
         let (&[tag, _, _], value) = bytes.split_first_chunk()?;
         let mut value = Reader(value);
         let call = match tag {

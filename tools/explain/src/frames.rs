@@ -1,5 +1,5 @@
 //! Frames that came in, in words, with whatever values they have.
-use crate::pdus::PduReceived;
+use crate::pdus::{self, PduReceived};
 use crate::reader::Reader;
 use crate::words::{Address, Block, Carrier, Ids};
 use std::fmt::{Display, Formatter, Result};
@@ -27,6 +27,16 @@ impl<'a> Frame<'a> {
             block: value.block()?,
             pdu: value.bits()?,
         })
+    }
+
+    /// The SSI that it came from.
+    pub fn ssi(&self) -> u32 {
+        self.address.ssi
+    }
+
+    /// Its N(S), if it has one.
+    pub fn ns(&self) -> Option<bool> {
+        pdus::ns(self.pdu)
     }
 }
 

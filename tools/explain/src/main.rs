@@ -1,5 +1,5 @@
 //! Runs the link on calls, as the runner does, and prints the run for people: each call in words, its number with its question, its
-//! records field by field, and what the link holds then. Standard input has a call a line, in hexadecimal digits.
+//! records field by field, whether it is a repeat, and what the link holds then. Standard input has a call a line, in hexadecimal digits.
 #![forbid(unsafe_code)]
 
 use crate::answers::Run;
@@ -17,6 +17,7 @@ mod pdus;
 mod reader;
 mod receipts;
 mod records;
+mod repeats;
 mod requests;
 mod state;
 mod words;

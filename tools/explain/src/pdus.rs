@@ -24,15 +24,26 @@ impl Display for PduReceived<'_> {
     }
 }
 
-/// Tells the bits of a frame and its header, and by `put_behind` what is behind it, with the FCS flag.
-fn put_pdu(f: &mut Formatter<'_>, pdu: Bits<'_>, put_behind: impl FnOnce(&mut Formatter<'_>, bool, &[bool]) -> Result) -> Result {
-    write!(f, "{}: ", Packed::new(pdu.iter()))?;
-    let mut bits = pdu.iter();
+/// The N(S) of a frame, if it has one.
+pub fn ns(pdu: Bits<'_>) -> Option<bool> {
+    take_header(&mut pdu.iter()).ok()?.ns
+}
+
+/// The header of a PDU of the basic link.
+struct Header {
+    name: &'static str,
+    fcs: bool,
+    nr: Option<bool>,
+    ns: Option<bool>,
+}
+
+/// Takes the header off the front of a frame's bits, or tells why they are no PDU.
+fn take_header(bits: &mut impl Iterator<Item = bool>) -> std::result::Result<Header, &'static str> {
     let (Some(advanced), Some(fcs), Some(high), Some(low)) = (bits.next(), bits.next(), bits.next(), bits.next()) else {
-        return f.write_str("no PDU, under four bits");
+        return Err("no PDU, under four bits");
     };
     if advanced {
-        return f.write_str("no basic link PDU, its type is not 0 to 7");
+        return Err("no basic link PDU, its type is not 0 to 7");
     }
     let (name, has_nr, has_ns) = match (high, low) {
         (false, false) => ("BL-ADATA", true, true),
@@ -40,14 +51,24 @@ fn put_pdu(f: &mut Formatter<'_>, pdu: Bits<'_>, put_behind: impl FnOnce(&mut Fo
         (true, false) => ("BL-UDATA", false, false),
         (true, true) => ("BL-ACK", true, false),
     };
-    if pdu.len() < 4 + usize::from(has_nr) + usize::from(has_ns) {
-        return f.write_str("no PDU, its header is cut");
-    }
+    let mut number = |has: bool| has.then(|| bits.next().ok_or("no PDU, its header is cut")).transpose();
+    let (nr, ns) = (number(has_nr)?, number(has_ns)?);
+    Ok(Header { name, fcs, nr, ns })
+}
+
+/// Tells the bits of a frame and its header, and by `put_behind` what is behind it, with the FCS flag.
+fn put_pdu(f: &mut Formatter<'_>, pdu: Bits<'_>, put_behind: impl FnOnce(&mut Formatter<'_>, bool, &[bool]) -> Result) -> Result {
+    write!(f, "{}: ", Packed::new(pdu.iter()))?;
+    let mut bits = pdu.iter();
+    let Header { name, fcs, nr, ns } = match take_header(&mut bits) {
+        Ok(header) => header,
+        Err(why) => return f.write_str(why),
+    };
     f.write_str(name)?;
-    if let Some(nr) = has_nr.then(|| bits.next()).flatten() {
+    if let Some(nr) = nr {
         write!(f, ", {}", Nr(nr))?;
     }
-    if let Some(ns) = has_ns.then(|| bits.next()).flatten() {
+    if let Some(ns) = ns {
         write!(f, ", {}", Ns(ns))?;
     }
     write!(f, ", {}", fcs_flag(fcs))?;

@@ -10,6 +10,7 @@ use Rattle.llc_rule.proofs.Runs.Orders as Orders
 use Rattle.llc_rule.proofs.Runs.Ranges as Ranges
 use Rattle.llc_rule.proofs.Runs.Checks as Checks
 use Rattle.llc_rule.proofs.Runs.CheckBits as CheckBits
+use Rattle.llc_rule.proofs.Runs.Repeats as Repeats
 use Rattle.llc_rule.proofs.Instance as Instance
 
 returns : tie.Need-returns
@@ -62,6 +63,26 @@ returns c = record {
   check-bits-twice = CheckBits.twice-agrees;
   check-bits-acknowledged = CheckBits.acknowledged-agrees;
   check-bits-other-flag = CheckBits.other-flag-agrees;
+  repeats-adata-after-data = Repeats.adata-after-data-agrees;
+  repeats-data-after-adata = Repeats.data-after-adata-agrees;
+  repeats-other-carrier = Repeats.other-carrier-agrees;
+  repeats-other-type = Repeats.other-type-agrees;
+  repeats-between = Repeats.between-agrees;
+  repeats-never-repeats = Repeats.never-repeats-agrees;
+  repeats-empty = Repeats.empty-agrees;
+  repeats-finishes = Repeats.finishes-agrees;
+  repeats-moves-to-front = Repeats.moves-to-front-agrees;
+  repeats-before-done-time = Repeats.before-done-time-agrees;
+  repeats-refused-by-12 = Repeats.refused-by-12-agrees;
+  repeats-refused-by-14 = Repeats.refused-by-14-agrees;
+  repeats-refused-otherwise = Repeats.refused-otherwise-agrees;
+  repeats-refused-by-13 = Repeats.refused-by-13-agrees;
+  repeats-after-start = Repeats.after-start-agrees;
+  repeats-request-row = Repeats.request-row-agrees;
+  repeats-frame-row = Repeats.frame-row-agrees;
+  repeats-interleaved = Repeats.interleaved-agrees;
+  repeats-send-side = Repeats.send-side-agrees;
+  repeats-rows = Repeats.rows-of-frames-agrees;
   instance-agrees = Instance.instance-agrees;
   turned-agrees = Instance.turned-agrees;
 }

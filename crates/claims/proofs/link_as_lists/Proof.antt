@@ -3,6 +3,7 @@ use Rattle.claims.proofs.link_as_lists.Tie as tie
 use Rattle.llc_rule.proofs.Claim as Claim
 use Rattle.llc_rule.proofs.Instance as Instance
 use Rattle.llc_rule.proofs.Applied as Applied
+use Rattle.llc_rule.proofs.Repeats as Repeats
 use Rattle.llc_rule.proofs.FitsRuns as FitsRuns
 use Rattle.llc_rule.proofs.SoundCalls as SoundCalls
 use Rattle.llc_rule.proofs.Records as Records
@@ -22,6 +23,7 @@ returns c = record {
   four-by-rule = Applied.four-by-rule;
   answers-are = Applied.answers-are;
   four-times-by-rule = Applied.four-times-by-rule;
+  told-is = Applied.told-is;
   text-spelled = Applied.text-spelled;
   text-accepted = Applied.text-accepted;
   ack-spelled = Applied.ack-spelled;
@@ -30,6 +32,14 @@ returns c = record {
   text-instance = Applied.text-instance;
   ack-framed = Applied.ack-framed;
   ack-instance = Applied.ack-instance;
+  begun = Applied.begun;
+  text-heard = Applied.text-heard;
+  repeat-heard = Applied.repeat-heard;
+  new-heard = Applied.new-heard;
+  text-first = Applied.text-first;
+  repeat-stopped = Applied.repeat-stopped;
+  new-up = Applied.new-up;
+  hears-framed = Repeats.hears-framed;
   sound-run = SoundCalls.sound-run;
   determined = Records.determined;
   all-determined = Records.all-determined;

@@ -17,6 +17,9 @@ returns c = record {
   texts = Claim.text-later;
   texts-read = Claim.read-later;
   texts-only = λ store before c f e z. let k = Claim.framed-later store before c f e z in (k .pdu, (k .text, k .is));
+  repeats-same = λ store cs. Claim.claim .runs store .repeats cs .same;
+  repeats-other = λ store cs. Claim.claim .runs store .repeats cs .other;
+  repeats-first = λ store cs. Claim.claim .runs store .repeats cs .first;
   one = Determined.one-answer;
   unhindered-lents = Instance.unhindered-lents;
   sees-lents = Instance.sees-lents;

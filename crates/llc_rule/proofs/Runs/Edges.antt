@@ -1,10 +1,9 @@
 -- The edges of the limits: the last that is taken and the first that is not.
 use Prim.Native.Nat.{ℕ, zero, suc}
 use mathlib.Core.Path.{_≡_, refl}
-use mathlib.Core.Bool.{false, true}
+use mathlib.Core.Bool.{true}
 use mathlib.Core.List.{List, [], _∷_, _++_}
 use lib.ListN.{replicate}
-use Rattle.llc_rule.specs.Messages.{noReceipts}
 use Rattle.llc_rule.specs.Keeps.{noNumbers, withRows}
 use Rattle.llc_rule.specs.Link.{Link, Row, rowWith, new, startedWith}
 use Rattle.llc_rule.proofs.Runs.{Told, hex, _gets_, _with_, _and_, request, requests, agrees}
@@ -176,11 +175,14 @@ pub unacknowledged-agrees : agrees new unacknowledged ≡ true
 unfolding agrees unacknowledged unitdataRequests unitdatas
 unacknowledged-agrees = refl
 
--- A frame BL-DATA with N(S) 0 and what goes up of it, and its acknowledgement.
+-- A frame BL-DATA with N(S) 0 and what goes up of it, its repeat, of which nothing does, and the acknowledgement of each.
 abbrev pub dataFrame : Told
 dataFrame =
     hex 21 0x2600120003e90105fa000000000000000000000510 gets 0
     and hex 35 0x010001040200030003e90300010105000400000000060004000000000b00000d000100
+
+abbrev pub repeatFrame : Told
+repeatFrame = hex 21 0x2600120003e90105fa000000000000000000000510 gets 0
 
 abbrev pub acknowledgement : List ℕ
 acknowledgement = hex 50 0x010001020200030003e90300010104000205fa050004000000000600040000000007000400000000080001000c0003000530
@@ -190,7 +192,8 @@ pub dues : List Told
 dues =
     hex 7 0x21000405fa0004 gets 0
     ∷ hex 8 0x2200050000010103 gets 0
-    ∷ replicate 64 dataFrame
+    ∷ dataFrame
+    ∷ replicate 63 repeatFrame
     ++ hex 21 0x2600120003e90105fa000000000000000000000510 gets 13
     ∷ hex 21 0x2600120003e90105fa000000000000000000000600 gets 13
     ∷ hex 21 0x2600120003e90105fa000000000000000000000420 gets 0

@@ -5,7 +5,7 @@ use mathlib.Core.List.{List, [], _∷_, _++_}
 use lib.ListN.{replicate}
 use Rattle.llc_rule.specs.Link.{new}
 use Rattle.llc_rule.proofs.Runs.{Told, hex, _gets_, _with_, _and_, requests, agrees}
-use Rattle.llc_rule.proofs.Runs.Edges.{unitdataRequests, dataFrame, acknowledgement, crowded, earlier}
+use Rattle.llc_rule.proofs.Runs.Edges.{unitdataRequests, dataFrame, repeatFrame, acknowledgement, crowded, earlier}
 
 -- With both queues full, a request of a taken receipt gets 6 and not 8; 5 comes before 6, 2 before 5.
 pub taken : List Told
@@ -53,7 +53,8 @@ full-of-dues =
     and hex 57 0x010001010200030003e90300010104000205fa050004000000000600040000000007000400000000080001000a0001010b00000c0003000510
     ∷ hex 5 0x2700020102 gets 0
     ∷ hex 3 0x230000 gets 0
-    ∷ replicate 64 dataFrame
+    ∷ dataFrame
+    ∷ replicate 63 repeatFrame
     ++ hex 21 0x2600120003e90105fa000000000000000000000604 gets 13
     ∷ hex 21 0x2600120003e90105fa000000000000000000000530 gets 14
     ∷ hex 26 0x2600170003e90105fa000000000000000000002f46cff9d453b0 gets 12

@@ -4,16 +4,19 @@ use borrow.Author.Needs.{needs}
 use lib.ListN.{take, length-take, List·getD-eq-default}
 use lib.Seq.{getD-take}
 use Rattle.lists.proofs.Arrays.{getD-there}
-use Rattle.llc_state.specs.States.{noRow}
-use Rattle.llc_steps.specs.Calls.{newSeq}
+use Rattle.llc_state.specs.States.{newSeq, noRow}
 use Rattle.llc_queues.proofs.searches.send_seq.Statement.{statement}
 use Rattle.llc_queues.proofs.searches.send_seq.Tie as tie
 
+new-requires : tie.Need-new-requires
+new-requires c κs = search needs
+
 returns : tie.Need-returns
 returns c =
-    let a = c .before .args in
+    let a = c .before .before .args in
     let n = length-take (a .n) (a .t1) in
-    sym (List·getD-eq-default (take (a .n) (a .t1)) (newSeq (a .ssi)) (omega (arith, c .if1 .taken)))
+    c .new .ensures
+    ∙ sym (List·getD-eq-default (take (a .n) (a .t1)) (newSeq (a .ssi)) (omega (arith, c .before .if1 .taken)))
 
 mul-result : tie.Need-mul-result
 mul-result c = search needs
@@ -29,4 +32,4 @@ returns-2 c =
     ∙ sym (getD-take (a .n) (a .t1) (a .i) (newSeq (a .ssi)) (b .if1 .left))
 
 pub send-seq-spec : {M : Type 1} → statement M
-send-seq-spec = tie.close (tie.spec returns mul-result array-copy-out-result returns-2)
+send-seq-spec = tie.close (tie.spec new-requires returns mul-result array-copy-out-result returns-2)
