@@ -223,6 +223,12 @@ earlier (suc n) = rowWith n noNumbers ∷ earlier n
 unfoldable pub crowded : Link
 crowded = withRows (startedWith 0x05fa 4) (earlier 254)
 
+-- n data requests of SSI 0000fd, whose row is the first, with the receipts from i on, each accepted.
+unfoldable pub requestsOfFirst : ℕ → ℕ → List Told
+requestsOfFirst zero i = []
+requestsOfFirst (suc n) i =
+    (hex 24 0x2400190000fd010000000000000000000000000000000000 ++ (i ∷ hex 3 0x000000)) gets 0 ∷ requestsOfFirst n (suc i)
+
 -- Row 256 and 257: 7 is asked on the acknowledged path alone, of an address without a row, and before 8.
 pub rows : List Told
 rows =
@@ -233,7 +239,7 @@ rows =
     ∷ hex 28 0x2400190000fd01000000000000000000000000000000000003000000 gets 0
     ∷ hex 28 0x2400190003eb02000000000000000000000000000000000004000000 gets 0
     ∷ hex 28 0x2500190003eb01000000000000000000000000000000000005000000 gets 0
-    ∷ requests 60 6
+    ∷ requestsOfFirst 60 6
     ++ request 66 gets 8
     ∷ hex 28 0x2400190003eb01000000000000000000000000000000000042000000 gets 7
     ∷ hex 3 0x230000 gets 0
@@ -245,5 +251,5 @@ rows =
     ∷ []
 
 pub rows-agrees : agrees crowded rows ≡ true
-unfolding agrees rows requests crowded earlier
+unfolding agrees rows requestsOfFirst crowded earlier
 rows-agrees = refl
