@@ -9,6 +9,18 @@ unsafe extern "C" {
     fn leaf_fcs(part: *const u8, part_len: usize, at: usize, len: usize) -> u64;
     fn leaf_read(frame: *const u8, frame_len: usize, len: usize) -> u64;
     fn leaf_write(out: *mut u8, out_len: usize, sdu: *const u8, sdu_len: usize, from: usize, len: usize) -> u64;
+    fn leaf_to_bitbuf(
+        kind: u8,
+        has_fcs: bool,
+        nr: bool,
+        ns: bool,
+        out: *mut u8,
+        out_len: usize,
+        sdu: *const u8,
+        sdu_len: usize,
+        from: usize,
+        len: usize,
+    ) -> u64;
 }
 
 /// Nanoseconds a call, the least of nine rounds.
@@ -101,6 +113,27 @@ fn main() {
         b.copy_bits(black_box(&mut src), BITS);
     });
     row("writing a header and copying 2,595 bits to offset 5", ours, rust);
+
+    // The same with the FCS flag and the FCS behind the SDU. The Rust's link leaves it out: here it is the Rust's own, over the SDU.
+    let pdu = bl_data::BlData { has_fcs: true, ns: 0 };
+    let write_here = |a: &mut [u8]| unsafe {
+        leaf_to_bitbuf(1, true, false, false, a.as_mut_ptr(), a.len(), source.as_ptr(), source.len(), 0, BITS)
+    };
+    let write_rust = |b: &mut BitBuffer, src: &mut BitBuffer| {
+        b.seek(0);
+        src.seek(0);
+        pdu.to_bitbuf(b);
+        b.copy_bits(src, BITS);
+        b.write_bits(fcs::compute_fcs(src, 0, BITS).into(), 32);
+    };
+    assert_eq!(write_here(&mut a), (AT + BITS + 32) as u64);
+    write_rust(&mut b, &mut src);
+    assert_eq!(a, b.clone().into_bytes());
+    let ours = time(|| {
+        black_box(write_here(black_box(&mut a)));
+    });
+    let rust = time(|| write_rust(&mut b, black_box(&mut src)));
+    row("writing a header, 2,595 bits and their FCS", ours, rust);
 
     let whole = BitBuffer::from_bytes(&frame);
     for (at, len) in [(AT, BITS), (0, 32), (3, 31), (0, 0), (7, 100)] {

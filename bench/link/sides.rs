@@ -7,10 +7,11 @@ use std::hint::black_box;
 use std::time::{Duration, Instant};
 use tetra_config::bluestation::SharedConfig;
 use tetra_core::{TdmaTime, TxReporter};
+use tetra_entities::llc::components::fcs::compute_fcs;
 use tetra_entities::llc::llc_bs_ms::Llc;
 use tetra_entities::{MessageQueue, TetraEntityTrait};
 use tetra_pdus::llc::consts::timers::set_sender_retry_timer;
-use tetra_saps::SapMsg;
+use tetra_saps::{SapMsg, SapMsgInner};
 use wipturay::Link;
 
 /// Rounds: in each, both sides take a turn.
@@ -110,7 +111,7 @@ impl Step {
             Call::TickStart { h, m, f, t } => Step::TickStart(TdmaTime { h: *h, m: *m, f: *f, t: *t }),
             Call::TickEnd => Step::TickEnd,
             Call::Data(request) => {
-                let reporter = TxReporter::new();
+                let reporter = if request.is_acknowledged() { TxReporter::new() } else { TxReporter::new_unacked() };
                 Step::Request(message::data(request, reporter.clone()), request.receipt, reporter)
             }
             Call::Unitdata(request) => {
@@ -121,6 +122,18 @@ impl Step {
             Call::Report { receipt, value } => Step::Report(*receipt, *value),
             Call::Release { receipt } => Step::Release(*receipt),
         }
+    }
+}
+
+/// The Rust's own FCS over the SDU of a data request that asks for one, which its link leaves out. Every such request of a scene
+/// goes out in a PDU with the FCS flag.
+fn announced(message: &SapMsg) -> Option<u32> {
+    match &message.msg {
+        SapMsgInner::TlaTlDataReqBl(request) if request.fcs_flag => {
+            let sdu = &request.tl_sdu;
+            Some(compute_fcs(sdu, sdu.get_pos(), sdu.get_len()))
+        }
+        _ => None,
     }
 }
 
@@ -168,6 +181,9 @@ impl<'a> Rust<'a> {
             }
             Step::Request(message, receipt, reporter) => {
                 self.receipts[usize::from(receipt)] = Some(reporter);
+                // So that both do the same, the FCS is computed here too, under the clock and once for each request; putting its 32
+                // bits behind the SDU is left out.
+                black_box(announced(&message));
                 self.llc.rx_prim(queue, message);
             }
             Step::Frame(message) => self.llc.rx_prim(queue, message),

@@ -19,7 +19,7 @@ extern "C" {
 #define WIPTURAY_STORE 32256
 
 /** How many bytes the output has at least. */
-#define WIPTURAY_OUTPUT 46656
+#define WIPTURAY_OUTPUT 47040
 
 /** A slot, by its place in the frame, the multiframe and the hyperframe. */
 struct wipturay_tdma_time {
@@ -48,7 +48,7 @@ struct wipturay_tma_unitdata_req {
 /** Where a frame's bits lie in the store. */
 struct wipturay_frame_place {
     size_t place; /**< Which of the 96 places of the store its frame has. */
-    size_t len;   /**< How many bits its frame has. */
+    size_t len;   /**< How many bits its frame has, its check bits among them. */
 };
 
 /** How far a message has come. */

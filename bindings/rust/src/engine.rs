@@ -1,13 +1,7 @@
 //! The engine and the memory that it works on. Nothing else calls the archive.
 use crate::record::Records;
 use crate::refused::Refused;
-use crate::sys::{Answer, State, wipturay_call, wipturay_new};
-
-/// How many bytes the store has (crates/llc/src/entry.rt, STORE).
-const STORE: usize = 32_256;
-
-/// How many bytes the output has (crates/llc/src/entry.rt, OUTPUT).
-const OUTPUT: usize = 46_656;
+use crate::sys::{Answer, OUTPUT, STORE, State, wipturay_call, wipturay_new};
 
 /// State, store and output. After `new` only the archive writes here.
 pub struct Engine {

@@ -23,7 +23,7 @@ pub struct Message<'a> {
     pub receipt: u8,
     /// What is passed on with it.
     pub block: &'a [u8],
-    /// How many bits its frame has.
+    /// How many bits its frame has, its check bits among them.
     pub frame_len: usize,
 }
 

@@ -42,7 +42,8 @@ pub struct Record<'a> {
     pub block: Option<&'a [u8]>,
     /// FCS flag, of what goes up: if it is set, it came with check bits, and they were right.
     pub fcs_flag: Option<bool>,
-    /// The PDU to be sent, or the SDU that goes up, if one is left: without its check bits.
+    /// The PDU to be sent, up to 2,633 bits: with the FCS flag, its check bits are the last 32. Or the SDU that goes up, if one is
+    /// left: without its check bits.
     pub bits: Option<Bits<'a>>,
 }
 

@@ -21,7 +21,7 @@ impl Refused {
     pub fn question(self) -> &'static str {
         match self.number {
             1 => {
-                "Is the store 32,256 bytes and the output at least 46,656, and every count and value in the state handed in \
+                "Is the store 32,256 bytes and the output at least 47,040, and every count and value in the state handed in \
                  within its range?"
             }
             2 => "Do the outer length and, for a known tag, the inner ones fill the call, spare bits zero?",
@@ -54,3 +54,18 @@ impl fmt::Display for Refused {
 }
 
 impl Error for Refused {}
+
+#[cfg(test)]
+mod tests {
+    use super::Refused;
+    use crate::sys::{OUTPUT, STORE};
+
+    #[test]
+    fn question_1_names_the_lengths_that_are_lent() {
+        let text = Refused { number: 1 }.question().replace(',', "");
+        assert!(
+            text.contains(&format!("the store {STORE} bytes and the output at least {OUTPUT} ")),
+            "{text}"
+        );
+    }
+}

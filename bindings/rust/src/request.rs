@@ -18,7 +18,7 @@ pub struct Request<'a> {
     pub req_handle: u32,
     /// May it steal?
     pub stealing_permission: bool,
-    /// FCS flag.
+    /// FCS flag: the frame then ends with the check sequence of its SDU, 32 bits. BL-UDATA has neither.
     pub fcs_flag: bool,
     /// Timeslot mask, under 16; bit 0 is timeslot 1.
     pub mask: Option<u8>,

@@ -1,5 +1,13 @@
-//! The exported functions of the engine and the structs that they take, as the Rattle source declares them. tests/layout.rs
-//! holds the structs to that source, tests/state.rs to the compiled archive.
+//! The exported functions of the engine, the structs that they take and the lengths that they want, as the Rattle source declares
+//! them. tests/layout.rs holds structs and lengths to that source, tests/state.rs and tests/output.rs to the compiled archive.
+
+/// How many bytes the store has.
+// crates/llc/src/entry.rt, STORE
+pub const STORE: usize = 32_256;
+
+/// How many bytes the output has at least.
+// crates/llc/src/entry.rt, OUTPUT
+pub const OUTPUT: usize = 47_040;
 
 /// A slot, by its place in the frame, the multiframe and the hyperframe.
 // crates/tdma_time/src/lib.rt, TdmaTime

@@ -38,7 +38,10 @@ fn a_link_is_allocated_once_and_its_calls_allocate_nothing() {
     assert_eq!(allocations(|| link = Some(Link::new())), 1);
     let mut link = link.unwrap();
     let radio = TetraAddress::new(1, SsiType::Issi).unwrap();
-    let request = Request::new(radio, 0, Bits::new(&[0xff; 325], 2_595).unwrap());
+    let request = Request {
+        fcs_flag: true,
+        ..Request::new(radio, 0, Bits::new(&[0xff; 325], 2_595).unwrap())
+    };
     let ack = Frame::new(radio, 1, Bits::new(&[0b00110_000], 5).unwrap());
     let made = allocations(|| {
         link.start(1, 1).unwrap();

@@ -1,4 +1,5 @@
-//! The structs of src/sys.rs lie as the Rattle source declares them, and those of the C header as these.
+//! The structs of src/sys.rs lie as the Rattle source declares them, and those of the C header as these; the lengths of store and
+//! output are the same in all three.
 use std::collections::HashMap;
 use std::fs;
 use std::io::Write;
@@ -103,12 +104,31 @@ fn layout<'a>(lines: impl Iterator<Item = &'a str>, structs: &HashMap<String, La
     }
 }
 
+/// A file of the Rattle source.
+fn rattle(name: &str) -> String {
+    let path = format!("{}/../../crates/{name}", env!("CARGO_MANIFEST_DIR"));
+    fs::read_to_string(&path).expect(&path)
+}
+
+/// A length that these lines of Rattle declare: a product of numbers and of other lengths.
+fn length(name: &str, text: &str) -> usize {
+    let head = format!("pub const {name}: usize = ");
+    let value = text.lines().find_map(|line| line.strip_prefix(&head)).expect(name);
+    let factor = |factor: &str| factor.replace('_', "").parse().unwrap_or_else(|_| length(factor, text));
+    value.trim_end_matches(';').split(" * ").map(factor).product()
+}
+
+/// The lengths of store and output in the Rattle source.
+fn lengths() -> [usize; 2] {
+    let text = rattle("llc_state/src/lib.rt") + &rattle("llc/src/entry.rt");
+    ["STORE", "OUTPUT"].map(|name| length(name, &text))
+}
+
 /// The layouts of the #[repr(C)] structs in the Rattle source.
 fn declared() -> HashMap<String, Layout> {
     let mut structs = HashMap::new();
     for name in ["tdma_time", "llc_state", "llc_steps"] {
-        let path = format!("{}/../../crates/{name}/src/lib.rt", env!("CARGO_MANIFEST_DIR"));
-        let text = fs::read_to_string(&path).expect(&path);
+        let text = rattle(&format!("{name}/src/lib.rt"));
         let mut lines = text.lines();
         while lines.any(|line| line == "#[repr(C)]") {
             let head = lines.next().unwrap();
@@ -140,18 +160,11 @@ fn c_name(name: &str) -> String {
     format!("struct wipturay{}", words.collect::<String>())
 }
 
-#[test]
-fn the_structs_of_the_c_header_lie_as_these() {
+/// Asks gcc whether these have these values where the C header is included.
+fn expect_in_c(values: &[(String, usize)]) {
     let mut text = "#include \"wipturay.h\"\n".to_string();
-    let mut expect = |what: String, value: usize| text += &format!("_Static_assert({what} == {value}, \"{what}\");\n");
-    for (name, layout) in mirrored() {
-        let name = c_name(name);
-        expect(format!("sizeof({name})"), layout.size);
-        expect(format!("_Alignof({name})"), layout.align);
-        for (field, offset, size) in layout.fields {
-            expect(format!("offsetof({name}, {field})"), offset);
-            expect(format!("sizeof((({name} *)0)->{field})"), size);
-        }
+    for (what, value) in values {
+        text += &format!("_Static_assert({what} == {value}, \"{what}\");\n");
     }
     let mut gcc = Command::new("gcc")
         .args(["-std=c11", "-Wall", "-Wextra", "-Werror", "-fsyntax-only", "-x", "c", "-"])
@@ -163,4 +176,26 @@ fn the_structs_of_the_c_header_lie_as_these() {
     gcc.stdin.take().unwrap().write_all(text.as_bytes()).unwrap();
     let said = gcc.wait_with_output().unwrap();
     assert!(said.status.success(), "{}", String::from_utf8_lossy(&said.stderr));
+}
+
+#[test]
+fn the_structs_of_the_c_header_lie_as_these() {
+    let mut values = Vec::new();
+    for (name, layout) in mirrored() {
+        let name = c_name(name);
+        values.push((format!("sizeof({name})"), layout.size));
+        values.push((format!("_Alignof({name})"), layout.align));
+        for (field, offset, size) in layout.fields {
+            values.push((format!("offsetof({name}, {field})"), offset));
+            values.push((format!("sizeof((({name} *)0)->{field})"), size));
+        }
+    }
+    expect_in_c(&values);
+}
+
+#[test]
+fn the_lengths_are_those_that_rattle_declares() {
+    let [store, output] = lengths();
+    assert_eq!([sys::STORE, sys::OUTPUT], [store, output]);
+    expect_in_c(&[("WIPTURAY_STORE".into(), store), ("WIPTURAY_OUTPUT".into(), output)]);
 }

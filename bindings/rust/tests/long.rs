@@ -82,7 +82,11 @@ fn full_queues_in_512_kb_of_stack() {
         let sdu = Bits::new(&[0xff; 325], 2_595).unwrap();
         link.start(1, 1).unwrap();
         for receipt in 0..64 {
-            link.data_request(&Request::new(radio(receipt.into()), receipt, sdu)).unwrap();
+            let request = Request {
+                fcs_flag: true,
+                ..Request::new(radio(receipt.into()), receipt, sdu)
+            };
+            link.data_request(&request).unwrap();
         }
         for receipt in 64..96 {
             link.unitdata_request(&Request::new(radio(0), receipt, sdu)).unwrap();

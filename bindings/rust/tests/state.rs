@@ -4,8 +4,8 @@ use common::hex;
 use std::array;
 use std::mem::MaybeUninit;
 use sys::{
-    Answer, Entry, FramePlace, LinkSendSeq, Progress, ReceiptPlace, ScheduledOutAck, State, TdmaTime, TmaUnitdataReq,
-    wipturay_call, wipturay_new,
+    Answer, Entry, FramePlace, LinkSendSeq, OUTPUT, Progress, ReceiptPlace, STORE, ScheduledOutAck, State, TdmaTime,
+    TmaUnitdataReq, wipturay_call, wipturay_new,
 };
 use wipturay as _; // brings the archive
 
@@ -103,8 +103,8 @@ impl Known {
     fn new() -> Known {
         Known {
             state: wipturay_new(),
-            store: vec![0; 32_256],
-            output: vec![0; 46_656],
+            store: vec![0; STORE],
+            output: vec![0; OUTPUT],
         }
     }
 

@@ -1,6 +1,6 @@
 -- Runs that the checker computes (llc_rule proofs/Runs and proofs/Instance): document 01's sample, its edges, what the course gets wrong,
--- awkward runs, marks, full widths, orders of questions, ranges, check sequences, check bits that are cut, repeats, and the
--- instance.
+-- awkward runs, marks, full widths, orders of questions, ranges, check sequences, check bits that are cut, repeats, check sequences
+-- that are sent, and the instance.
 use mathlib.Core.Path.{_≡_}
 use mathlib.Core.Bool.{true}
 use Rattle.llc_rule.specs.Link.{new}
@@ -16,6 +16,7 @@ use Rattle.llc_rule.proofs.Runs.Ranges as Ranges
 use Rattle.llc_rule.proofs.Runs.Checks as Checks
 use Rattle.llc_rule.proofs.Runs.CheckBits as CheckBits
 use Rattle.llc_rule.proofs.Runs.Repeats as Repeats
+use Rattle.llc_rule.proofs.Runs.Announced as Announced
 use Rattle.llc_rule.proofs.Instance.{instance, turned}
 
 pub record Computed : Type 0 where
@@ -87,5 +88,8 @@ pub record Computed : Type 0 where
   pub repeats-interleaved : agrees new Repeats.interleaved ≡ true
   pub repeats-send-side : agrees new Repeats.send-side ≡ true
   pub repeats-rows : agrees crowded Repeats.rows-of-frames ≡ true
+  pub announced-kinds : agrees new Announced.kinds ≡ true
+  pub announced-unitdata : agrees new Announced.unitdata ≡ true
+  pub announced-resent : agrees new Announced.resent ≡ true
   pub instance-agrees : agrees new instance ≡ true
   pub turned-agrees : agrees new turned ≡ true

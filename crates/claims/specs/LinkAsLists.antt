@@ -1,14 +1,15 @@
 -- The link as lists, and demand 3 of it (llc_rule).
-use Prim.Native.Nat.{ℕ, _+_, _/_, _≤_}
+use Prim.Native.Nat.{ℕ, _+_, _*_, _/_, _≤_}
 use mathlib.Core.Path.{_≡_}
 use mathlib.Core.Bool.{Bool, true, false}
-use mathlib.Core.List.{List, [], _∷_}
-use mathlib.Core.Option.{some}
+use mathlib.Core.List.{List, [], _∷_, map}
+use mathlib.Core.Option.{none, some}
 use lib.Dec.{eqb}
-use lib.ListN.{drop, length}
+use lib.ListN.{drop, length, take}
 use Rattle.lists.specs.Lists.{all, All}
 use Rattle.questions.specs.Outcome.{accepted}
-use Rattle.llc_pdus.specs.Received.{wholeFrame}
+use Rattle.bits.specs.Bits.{toBits}
+use Rattle.llc_pdus.specs.Frames.{frameBits}
 use Rattle.llc_pdus.specs.Headers.{nsOf}
 use Rattle.llc_pdus.specs.declared.Pdu.{Pdu}
 use Rattle.llc_pdus.specs.declared.Pdu.the-variants.{BlData, BlAck}
@@ -16,6 +17,7 @@ use Rattle.llc_rule.specs.Calls.{Frame, frame, frameIn, parsed}
 use Rattle.llc_rule.specs.Limits.{outputBytes}
 use Rattle.llc_rule.specs.Claim.{Claims}
 use Rattle.llc_rule.specs.Seen.{SeesTheSame, ruled, unhindered}
+use Rattle.llc_rule.specs.ReadBack.{requestsAfter, ReadAs, ReadAsReply}
 use Rattle.llc_rule.specs.Repeats.{begins, hears, heardIn, WentUp}
 use Rattle.llc_rule.specs.Texts.{textsIn}
 use Rattle.llc_rule.specs.Sendings.{AtMostFour, sendings}
@@ -26,10 +28,10 @@ use Rattle.llc_rule.specs.Sound.{Sound, Within}
 use Rattle.llc_rule.specs.Records.{Indication, Record, Reply, Sent, allBytes, bytes, indicationBytes, kind, replyBytes, sentBytes}
 use Rattle.llc_rule.specs.Sizes.{Fits, Small}
 use Rattle.llc_rule.specs.Step.{step}
-use Rattle.llc_rule.proofs.Applied.{answers, asked, secondRequest, told, toldAt, text, again}
+use Rattle.llc_rule.proofs.Applied.{answers, asked, secondRequest, stealRequest, orderBits, ackBits, handedBits, told, toldAt, text, again}
 use Rattle.llc_rule.proofs.FitsRuns.{FitsLink}
 use Rattle.llc_rule.proofs.Instance.{first, ackOfFirst, askSecond, textOfFirst, hasKind, hasNumber, instanceCalls, laterCalls, second, turnedCalls}
-use Rattle.llc_rule.proofs.Records.{maskSize, sizeIfAny}
+use Rattle.llc_rule.proofs.Records.{maskSize, mostReply, mostSent, sizeIfAny}
 use Rattle.llc_rule.proofs.Values.{IsByte}
 
 pub record LinkAsLists : Type 0 where
@@ -62,12 +64,22 @@ pub record LinkAsLists : Type 0 where
   pub told-is : run new instanceCalls ≡ told
   pub text-spelled : parsed (toldAt 8 .call) ≡ accepted (frame (frameIn (drop 3 textOfFirst)))
   pub text-accepted : toldAt 8 .number ≡ 0
-  pub ack-spelled : parsed (toldAt 23 .call) ≡ accepted (frame (frameIn (drop 3 ackOfFirst)))
-  pub ack-accepted : toldAt 23 .number ≡ 0
-  pub text-framed : frameIn (drop 3 textOfFirst) .pdu ≡ wholeFrame (BlData true true) text
+  pub ack-spelled : parsed (toldAt 24 .call) ≡ accepted (frame (frameIn (drop 3 ackOfFirst)))
+  pub ack-accepted : toldAt 24 .number ≡ 0
+  pub text-framed : frameIn (drop 3 textOfFirst) .pdu ≡ frameBits (BlData true true) text
   pub text-instance : textsIn (toldAt 8 .records) ≡ text ∷ []
-  pub ack-framed : frameIn (drop 3 ackOfFirst) .pdu ≡ wholeFrame (BlAck true false) []
-  pub ack-instance : textsIn (toldAt 23 .records) ≡ []
+  pub ack-framed : frameIn (drop 3 ackOfFirst) .pdu ≡ frameBits (BlAck true false) []
+  pub ack-instance : textsIn (toldAt 24 .records) ≡ []
+  -- An order and an acknowledgement that takes an SDU along are handed down with check bits, and read back; so is a reply.
+  pub bits-handed :
+      map handedBits (toldAt 13 .records)
+      ≡ toBits 17 0x022e7d ∷ orderBits ∷ toBits 5 0x07 ∷ toBits 5 0x06 ∷ toBits 11 0x165 ∷ ackBits ∷ []
+  pub requests-then :
+      requestsAfter (take 13 told) 0x22 ∷ requestsAfter (take 13 told) 0x44 ∷ [] ≡ some secondRequest ∷ some stealRequest ∷ []
+  pub requests-freed : requestsAfter (take 39 told) 0x22 ≡ none
+  pub order-read : ReadAs secondRequest orderBits
+  pub ack-read : ReadAs stealRequest ackBits
+  pub reply-read : ReadAsReply (toBits 5 0x07)
   -- The text is the first since its start, and goes up; its repeat does not; the next has another N(S) and goes up.
   pub begun : heardIn (toldAt 1) ≡ begins
   pub text-heard : heardIn (toldAt 8) ≡ hears first true text
@@ -80,7 +92,7 @@ pub record LinkAsLists : Type 0 where
   pub hears-framed :
       (e : Exchange) (f : Frame) (p : Pdu) (text : List ℕ) (ns : Bool)
       → parsed (e .call) ≡ accepted (frame f)
-      → f .pdu ≡ wholeFrame p text
+      → f .pdu ≡ frameBits p text
       → nsOf p ≡ some ns
       → e .number ≡ 0
       → heardIn e ≡ hears (f .ssi) ns text
@@ -108,6 +120,7 @@ pub record LinkAsLists : Type 0 where
   pub length-indication :
       (k : ℕ) (i : Indication) → length (indicationBytes k i) ≡ 35 + length (i .block) + sizeIfAny (i .sdu)
   -- A call's records fit into every output that question 1 takes; the second hypothesis holds after every run.
+  pub no-slack : outputBytes ≡ 96 * mostSent + 64 * mostReply
   pub room : (l : Link) → Within l → Small l → (c : List ℕ) → length (allBytes (given (step l c))) ≤ outputBytes
   pub new-small : Small new
   pub small-after : (l : Link) → Small l → (cs : List (List ℕ)) → Small (after l cs)

@@ -1,14 +1,14 @@
 -- PDUs (llc_pdus).
 use Prim.Native.Nat.{ℕ, _%_, _*_, _+_, _<_, _≤_}
 use mathlib.Core.Path.{_≡_}
-use mathlib.Core.Bool.{false}
 use mathlib.Core.List.{List, _++_}
 use lib.ListN.{length, take}
 use Rattle.questions.specs.Outcome.{accepted}
 use Rattle.bits.specs.Bits.{AllBits, bits, part, splice, value}
 use Rattle.llc_pdus.specs.Answers.{answered, readFrom}
-use Rattle.llc_pdus.specs.Headers.{Reading, hasFcs, header, reading}
-use Rattle.llc_pdus.specs.Received.{Received, received, wholeFrame}
+use Rattle.llc_pdus.specs.Headers.{Reading, header, reading}
+use Rattle.llc_pdus.specs.Frames.{checkBits, frameBits}
+use Rattle.llc_pdus.specs.Received.{Received, received}
 use Rattle.llc_pdus.specs.Types.{firstBits, fromRaw, raw, typeOf}
 use Rattle.llc_pdus.specs.Sdus.{headerEnd, holding}
 use Rattle.llc_pdus.specs.Writes.{frame}
@@ -39,23 +39,22 @@ pub record Pdus : Type 0 where
   -- The header of what was written reads back.
   pub reads-back :
       (p : Pdu) (l s : List ℕ) (from n : ℕ)
-      → from + n ≤ length s
-      → reading (take (length (header p) + n) (splice l 0 (frame p s from n))) ≡ accepted (record { pdu = p; size = length (header p) })
+      → reading (take (length (frame p s from n)) (splice l 0 (frame p s from n))) ≡ accepted (record { pdu = p; size = length (header p) })
   -- Behind it stand the SDU bits.
   pub sdu-back :
       (p : Pdu) (l s : List ℕ) (from n : ℕ)
       → from + n ≤ length s
       → part (splice l 0 (frame p s from n)) (length (header p)) n ≡ part s from n
-  -- Without the FCS flag it is received as the same PDU with the same SDU.
+  -- It is received as the same PDU with the same SDU, with the FCS flag and without.
   pub received-back :
       (p : Pdu) (l s : List ℕ) (from n : ℕ)
-      → from + n ≤ length s
-      → hasFcs p ≡ false
-      → received (take (length (header p) + n) (splice l 0 (frame p s from n))) ≡ accepted (record { header = p; sdu = part s from n })
+      → received (take (length (frame p s from n)) (splice l 0 (frame p s from n))) ≡ accepted (record { header = p; sdu = part s from n })
+  -- So many bits it has, with check bits or without.
+  pub length-frame : (p : Pdu) (sdu : List ℕ) → length (frameBits p sdu) ≡ length (header p) + length sdu + checkBits p
   -- A frame with its SDU, and with the check bits of that where the flag announces them, is received as that PDU with that SDU.
-  pub frame-received : (p : Pdu) (sdu : List ℕ) → received (wholeFrame p sdu) ≡ accepted (record { header = p; sdu = sdu })
+  pub frame-received : (p : Pdu) (sdu : List ℕ) → received (frameBits p sdu) ≡ accepted (record { header = p; sdu = sdu })
   -- And nothing else is received.
-  pub received-frame : (l : List ℕ) (r : Received) → AllBits l → received l ≡ accepted r → l ≡ wholeFrame (r .header) (r .sdu)
+  pub received-frame : (l : List ℕ) (r : Received) → AllBits l → received l ≡ accepted r → l ≡ frameBits (r .header) (r .sdu)
   -- The bytes handed back of a frame that was read hold what it is received as.
   pub held-sdu :
       (f : List ℕ) (n : ℕ) (p : Pdu) (s : Sdu)

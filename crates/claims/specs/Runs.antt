@@ -9,9 +9,14 @@ use lib.ListN.{drop, length}
 use Rattle.lists.specs.Lists.{all, among}
 use Rattle.bits.specs.Bits.{AllBytes, bits}
 use Rattle.questions.specs.Outcome.{accepted}
-use Rattle.llc_pdus.specs.Headers.{nsOf}
-use Rattle.llc_pdus.specs.Received.{wholeFrame}
+use Rattle.llc_pdus.specs.Headers.{hasFcs, nsOf}
+use Rattle.llc_pdus.specs.Received.{received}
+use Rattle.llc_pdus.specs.Frames.{frameBits}
 use Rattle.llc_pdus.specs.declared.Pdu.{Pdu}
+use Rattle.llc_pdus.specs.declared.Pdu.the-variants.{BlAck}
+use Rattle.llc_rule.specs.Limits.{longestFrame}
+use Rattle.llc_rule.specs.Records.{Record, acknowledged, reply, unacknowledged, Sent, Reply}
+use Rattle.llc_rule.specs.ReadBack.{requestsAfter, flagIn}
 use Rattle.llc_rule.specs.Calls.{Request, Frame, frame, parsed}
 use Rattle.llc_rule.specs.Seen.{SeesItsOwnPast, SeesTheSame, calls, ruleAfter, ruleSights, ruled, unhindered}
 use Rattle.llc_rule.specs.Sendings.{AtMostFour, requestSpelled, sendings}
@@ -33,12 +38,21 @@ use Rattle.llc_runs.specs.Runs.{Lent, after, begin, exchange, left, run}
 use Rattle.llc_runs.proofs.Applied.{askedAt}
 use Rattle.llc_runs.proofs.Instance.{laterLents, lentSecond, lents, started, tooShort, turnedLents, zeroStore}
 
+-- What a handset reads of a frame: the request that holds the receipt, the PDU with its flag, the length, and the SDU.
+abbrev pub Read : List Exchange → Sent → Type 0
+Read before s =
+    (r : Request)
+    × ((requestsAfter before (s .receipt) ≡ some r)
+    × ((p : Pdu)
+    × ((hasFcs p ≡ flagIn r p)
+    × ((length (s .pdu) ≤ longestFrame) × (received (s .pdu) ≡ accepted (record { header = p; sdu = r .sdu }))))))
+
 pub record Runs : Type 0 where
   -- The contract of `call` leaves one answer, and a refusal changes no byte.
   pub one-answer : OneAnswer
   pub no-leaves-all : NoLeavesAll
-  -- All that is claimed of every run; what it says of an address, of one answer, of a text that came in, of repeats and of four sendings is
-  -- spelled out below.
+  -- All that is claimed of every run; what it says of an address, of one answer, of a text that came in, of repeats, of frames that
+  -- are read back and of four sendings is spelled out below.
   pub claim : Claim
   pub seen :
       (store : List ℕ) (cs : List Lent)
@@ -64,20 +78,20 @@ pub record Runs : Type 0 where
   pub texts :
       (store : List ℕ) (before : List Lent) (c : Lent) (f : Frame) (p : Pdu) (text : List ℕ)
       → parsed (c .call) ≡ accepted (frame f)
-      → f .pdu ≡ wholeFrame p text
+      → f .pdu ≡ frameBits p text
       → exchange (after (begin store) before) c .number ≡ 0
       → textsIn (exchange (after (begin store) before) c .records)
       ≡ unlessLast (lastHeard (f .ssi) (run (begin store) before)) (nsOf p) (shown p text)
   pub texts-read :
       (store : List ℕ) (before : List Lent) (c : Lent) (f : Frame) (p : Pdu) (text : List ℕ)
       → parsed (c .call) ≡ accepted (frame f)
-      → f .pdu ≡ wholeFrame p text
+      → f .pdu ≡ frameBits p text
       → among (exchange (after (begin store) before) c .number) (9 ∷ 10 ∷ 11 ∷ 12 ∷ []) ≡ false
   pub texts-only :
       (store : List ℕ) (before : List Lent) (c : Lent) (f : Frame)
       → parsed (c .call) ≡ accepted (frame f)
       → exchange (after (begin store) before) c .number ≡ 0
-      → (p : Pdu) × ((text : List ℕ) × (f .pdu ≡ wholeFrame p text))
+      → (p : Pdu) × ((text : List ℕ) × (f .pdu ≡ frameBits p text))
   -- Of two accepted frames with N(S) of one address that follow one another with no start between, the second sends its SDU up
   -- exactly if its N(S) is another; the first after a start always does. An accepted frame of a PDU with an N(S) and a text is
   -- one that is heard with them.
@@ -108,6 +122,27 @@ pub record Runs : Type 0 where
       → noneFrom a between ≡ true
       → heardIn d ≡ hears a ns sdu
       → WentUp a sdu (d .records)
+  -- What is handed down with a receipt, acknowledged or not, is read as a frame of the request that holds it: it is no longer than
+  -- question 5 lets a frame be, questions 9 to 12 pass it, and exactly the request's SDU is left. The flag is the one that the
+  -- request asks for, in a BL-UDATA never. A reply is read as a BL-ACK without flag and SDU.
+  pub read-back :
+      (store : List ℕ) (cs : List Lent) (before : List Exchange) (e : Exchange) (later : List Exchange)
+      (front rest : List Record) (s : Sent)
+      → run (begin store) cs ≡ before ++ (e ∷ later)
+      → e .records ≡ front ++ (acknowledged s ∷ rest)
+      → Read before s
+  pub read-back-too :
+      (store : List ℕ) (cs : List Lent) (before : List Exchange) (e : Exchange) (later : List Exchange)
+      (front rest : List Record) (s : Sent)
+      → run (begin store) cs ≡ before ++ (e ∷ later)
+      → e .records ≡ front ++ (unacknowledged s ∷ rest)
+      → Read before s
+  pub reply-back :
+      (store : List ℕ) (cs : List Lent) (before : List Exchange) (e : Exchange) (later : List Exchange)
+      (front rest : List Record) (a : Reply)
+      → run (begin store) cs ≡ before ++ (e ∷ later)
+      → e .records ≡ front ++ (reply a ∷ rest)
+      → (nr : Bool) × (received (a .pdu) ≡ accepted (record { header = BlAck false nr; sdu = [] }))
   pub one :
       (s : State) (store out bytes : List ℕ) (l m : Left)
       → AllBytes (l .store)

@@ -7,7 +7,7 @@ use Rattle.bits.specs.Bits.{toBits, value}
 use Rattle.fcs.specs.Polynomials.{plus, divisor, rest}
 use Rattle.fcs.specs.Fcs.{start, fcs}
 use Rattle.llc_pdus.specs.Headers.{reading}
-use Rattle.llc_pdus.specs.Writes.{frameBits}
+use Rattle.llc_pdus.specs.Frames.{frameBits}
 use Rattle.llc_pdus.specs.Received.{received, checked, checks}
 use Rattle.tdma_time.specs.Modulo.{modulo}
 use Rattle.tdma_time.specs.Slots.{valid, slots, timeAt, plus as plusSlots, centred, minus, ahead, forward}

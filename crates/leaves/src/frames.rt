@@ -73,7 +73,7 @@ fn written() {
         has_fcs: false,
         ns: true,
     });
-    words(b"BL-DATA with FCS and no check bits: ");
+    words(b"BL-DATA N(S) 1 with FCS: ");
     write(Pdu::BlData {
         has_fcs: true,
         ns: true,
@@ -89,7 +89,7 @@ fn written() {
 
 // Writes a PDU with twelve bits of an SDU from bit 3 on, shows the bytes, and reads them back.
 fn write(pdu: Pdu) {
-    let mut out = [170u8; 4];
+    let mut out = [170u8; 7];
     match llc_pdus::to_bitbuf(pdu, b"\xf3\xc5", 3, 12, &mut out) {
         Written::Bits(n) => back(&out, n),
         Written::OutOfRange => refused(5),

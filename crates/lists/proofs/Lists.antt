@@ -58,6 +58,14 @@ module _ {A : Type 0} where
   all-map P Q [] f a = tt
   all-map P Q (x ∷ l) f a = (f x (a .0), all-map P Q l f (a .1))
 
+  pub all-unit : (l : List A) → All (λ (x : A). Unit {0}) l
+  all-unit [] = tt
+  all-unit (x ∷ l) = (tt, all-unit l)
+
+  pub all-both : (P Q R : A → Type 0) (l : List A) → ((x : A) → P x → Q x → R x) → All P l → All Q l → All R l
+  all-both P Q R [] f a b = tt
+  all-both P Q R (x ∷ l) f a b = (f x (a .0) (b .0), all-both P Q R l f (a .1) (b .1))
+
   -- What was found stands between those before it, none of which passes, and those behind it.
   pub record Split (p : A → Bool) (l : List A) (x : A) (xs : List A) : Type 0 where
     pub front : List A

@@ -12,7 +12,7 @@ use Rattle.llc_steps.specs.States.{Kept}
 use Rattle.llc_steps.specs.Answers.{Effect, delivered}
 use Rattle.llc_steps.specs.Steps.{steps}
 
--- "1. Is the store 32,256 bytes and the output at least 46,656, and every count and value in the state handed in within its
+-- "1. Is the store 32,256 bytes and the output at least 47,040, and every count and value in the state handed in within its
 -- range?" The store is given by its bits.
 unfoldable pub lentRight : List ℕ → List ℕ → Bool
 lentRight store out = eqb (length store) (8 * storeBytes) && leb outputBytes (length out)

@@ -26,7 +26,7 @@ use llc_tick_end::tick_end;
 pub const STORE: usize = STORE_PLACES * PLACE_BYTES;
 
 /// How many bytes an output has at least.
-pub const OUTPUT: usize = 46_656;
+pub const OUTPUT: usize = 47_040;
 
 // Are store and output as long as they must be?
 fn lent_right(store: &[u8], out: &[u8]) -> bool

@@ -16,9 +16,11 @@ use Rattle.fcs.proofs.Laws.{length-fcs, all-fcs}
 use Rattle.questions.specs.Outcome.{Outcome, accepted, refused, ask}
 use Rattle.questions.proofs.Asked.{content, accepted-passed, both}
 use Rattle.llc_pdus.specs.Headers.{header, Reading, reading, hasFcs}
-use Rattle.llc_pdus.specs.Received.{Received, checks, sduBefore, checkSequence, wholeFrame, checked, received}
-use Rattle.llc_pdus.specs.Writes.{frameBits, frame}
+use Rattle.llc_pdus.specs.Frames.{checkSequence, frameBits}
+use Rattle.llc_pdus.specs.Received.{Received, checks, sduBefore, checked, received}
+use Rattle.llc_pdus.specs.Writes.{frame}
 use Rattle.llc_pdus.specs.declared.Pdu.{Pdu}
+use Rattle.llc_pdus.specs.declared.Pdu.the-variants.{BlAck}
 use Rattle.llc_pdus.proofs.Laws.{header-reads, reading-header}
 use Rattle.llc_pdus.proofs.RoundTrip.{in-front}
 use Rattle.llc_pdus.proofs.Received.{behind, partsOf, asked-of, size-of}
@@ -50,8 +52,8 @@ module _ (p : Pdu) (sdu : List ℕ) where
       go true =
           take-at sdu (fcs sdu) (length (sdu ++ fcs sdu) - fcsBits) (omega (arith, length-append sdu (fcs sdu), length-fcs sdu))
 
-  pub frame-received : received (wholeFrame p sdu) ≡ accepted (record { header = p; sdu = sdu })
-  unfolding received checked wholeFrame
+  pub frame-received : received (frameBits p sdu) ≡ accepted (record { header = p; sdu = sdu })
+  unfolding received checked frameBits
   frame-received =
       let k : ℕ = length (header p) in
       let e : drop k (header p ++ rest) ≡ rest = drop-at (header p) rest k refl in
@@ -60,6 +62,11 @@ module _ (p : Pdu) (sdu : List ℕ) where
       (λ (l : List ℕ). ask 12 (not (hasFcs p) || checks l) (accepted (record { header = p; sdu = sduBefore p l })))
       e
       ∙ rw (check-right, sdu-is)
+
+-- A BL-ACK without the flag that stands alone.
+pub reply-received : (nr : Bool) → received (header (BlAck false nr)) ≡ accepted (record { header = BlAck false nr; sdu = [] })
+unfolding frameBits
+reply-received nr = frame-received (BlAck false nr) []
 
 -- Two lists of as many bits that spell the same number are the same.
 same-bits : (l m : List ℕ) → AllBits l → AllBits m → length l ≡ length m → value l ≡ value m → l ≡ m
@@ -85,11 +92,11 @@ sdu-with-check p l h q = go (hasFcs p) q
         (eqb-true (value (fcs (take m l))) (value (drop m l)) (t .1)) in
         sym (ap (λ (x : List ℕ). take m l ++ x) same ∙ take-append-drop m l)
 
-pub received-frame : (l : List ℕ) (r : Received) → AllBits l → received l ≡ accepted r → l ≡ wholeFrame (r .header) (r .sdu)
-unfolding received checked wholeFrame
+pub received-frame : (l : List ℕ) (r : Received) → AllBits l → received l ≡ accepted r → l ≡ frameBits (r .header) (r .sdu)
+unfolding received checked frameBits
 received-frame l r h e = go (reading l) refl e
   where
-    go : (o : Outcome Reading) → reading l ≡ o → checked l o ≡ accepted r → l ≡ wholeFrame (r .header) (r .sdu)
+    go : (o : Outcome Reading) → reading l ≡ o → checked l o ≡ accepted r → l ≡ frameBits (r .header) (r .sdu)
     go (refused n) q t = let z : _≡_ {A = ℕ} 0 1 = cc in absurd (omega arith)
     go (accepted x) q t =
         let p : Pdu = x .pdu in
@@ -100,16 +107,8 @@ received-frame l r h e = go (reading l) refl e
         let back = sdu-with-check p (behind p l) (all-drop (length (header p)) l h) (a .0) in
         rw is (sym (take-append-drop (length (header p)) l) ∙ ap₂ _++_ front back)
 
--- A frame that was written without the flag is received as it was meant.
+-- A frame that was written is received as it was meant.
 pub received-back :
     (p : Pdu) (l s : List ℕ) (from n : ℕ)
-    → from + n ≤ length s
-    → hasFcs p ≡ false
-    → received (take (length (header p) + n) (splice l 0 (frame p s from n))) ≡ accepted (record { header = p; sdu = part s from n })
-unfolding wholeFrame frameBits
-received-back p l s from n there unset =
-    let sdu : List ℕ = part s from n in
-    let none : checkSequence p sdu ≡ [] = ap (λ (b : Bool). cond b (fcs sdu) []) unset in
-    let whole : frame p s from n ≡ wholeFrame p sdu =
-    ap (λ (x : List ℕ). header p ++ x) (sym (ap (λ (x : List ℕ). sdu ++ x) none ∙ append-nil sdu)) in
-    ap received (in-front p l s from n there ∙ whole) ∙ frame-received p sdu
+    → received (take (length (frame p s from n)) (splice l 0 (frame p s from n))) ≡ accepted (record { header = p; sdu = part s from n })
+received-back p l s from n = ap received (in-front p l s from n) ∙ frame-received p (part s from n)

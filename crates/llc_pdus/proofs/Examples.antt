@@ -1,4 +1,4 @@
--- Frames, and what they are received as, written from the papers alone: code and definition wrong alike are refused here.
+-- Frames, and what they are received as and written from, from the papers alone: code and definition wrong alike are refused here.
 use Prim.Native.Nat.{ℕ}
 use mathlib.Core.Path.{_≡_, refl}
 use mathlib.Core.Bool.{true, false}
@@ -8,6 +8,7 @@ use Rattle.fcs.specs.Polynomials.{plus, divisor, rest}
 use Rattle.fcs.specs.Fcs.{start, fcs}
 use Rattle.questions.specs.Outcome.{Outcome, accepted, refused}
 use Rattle.llc_pdus.specs.Headers.{reading}
+use Rattle.llc_pdus.specs.Frames.{frameBits}
 use Rattle.llc_pdus.specs.Received.{Received, checks, checked, received}
 use Rattle.llc_pdus.specs.declared.Pdu.{Pdu}
 use Rattle.llc_pdus.specs.declared.Pdu.the-variants.{BlAdata, BlData, BlUdata, BlAck}
@@ -68,6 +69,19 @@ pub cut-received : receivedAll cut ≡ map (λ (r : Row). r .wanted) cut
 unfolding receivedAll cut
 cut-received = refl
 
+-- SDUs of 31, 32 and 33 bits, and the nine digits 123456789, whose check value is published.
+unfoldable pub lengths : List Row
+lengths =
+    toBits 69 0x095ae34fc1fb61c9df reads is (BlAdata true true false) (toBits 31 0x5ae34fc1)
+    ∷ toBits 69 0x0bffffffffffffffff reads is (BlData true true) (toBits 32 0xffffffff)
+    ∷ toBits 69 0x0d6b8d3f05e0c401a6 reads is (BlUdata true) (toBits 33 0x16b8d3f05)
+    ∷ toBits 109 0x0e313233343536373839fc891918 reads is (BlAck true false) (toBits 72 0x313233343536373839)
+    ∷ []
+
+pub lengths-received : receivedAll lengths ≡ map (λ (r : Row). r .wanted) lengths
+unfolding receivedAll lengths
+lengths-received = refl
+
 -- Without the flag nothing is cut.
 unfoldable pub unflagged : List Row
 unflagged =
@@ -108,6 +122,31 @@ unflagged =
 pub unflagged-received : receivedAll unflagged ≡ map (λ (r : Row). r .wanted) unflagged
 unfolding receivedAll unflagged
 unflagged-received = refl
+
+-- Written, each of them is the frame that it was read from.
+abbrev frameOf : Outcome Received → List ℕ
+frameOf (accepted r) = frameBits (r .header) (r .sdu)
+frameOf (refused n) = []
+
+unfoldable pub writtenAll : List Row → List (List ℕ)
+unfolding toBits plus divisor rest start fcs frameBits
+writtenAll rs = map (λ (r : Row). frameOf (r .wanted)) rs
+
+pub emptied-written : writtenAll emptied ≡ map (λ (r : Row). r .frame) emptied
+unfolding writtenAll emptied
+emptied-written = refl
+
+pub cut-written : writtenAll cut ≡ map (λ (r : Row). r .frame) cut
+unfolding writtenAll cut
+cut-written = refl
+
+pub lengths-written : writtenAll lengths ≡ map (λ (r : Row). r .frame) lengths
+unfolding writtenAll lengths
+lengths-written = refl
+
+pub unflagged-written : writtenAll unflagged ≡ map (λ (r : Row). r .frame) unflagged
+unfolding writtenAll unflagged
+unflagged-written = refl
 
 -- Too few bits for a check, and wrong checks; right ones between them.
 unfoldable pub wrong : List Row

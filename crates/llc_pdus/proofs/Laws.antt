@@ -13,7 +13,7 @@ use Rattle.questions.proofs.Asked.{accepted-passed}
 use Rattle.llc_pdus.specs.Headers.{bit, header, lengthOf, one, Reading, kindAt, readingOf, reading}
 use Rattle.llc_pdus.specs.Sdus.{headerEnd}
 use Rattle.llc_pdus.specs.Types.{raw, fromRaw, firstBits, typeOf}
-use Rattle.llc_pdus.specs.Writes.{frameBits}
+use Rattle.llc_pdus.specs.Frames.{checkSequence, frameBits}
 use Rattle.llc_pdus.specs.declared.Pdu.{Pdu}
 use Rattle.llc_pdus.specs.declared.Pdu.the-variants.{BlAdata, BlData, BlUdata, BlAck}
 use Rattle.llc_pdus.specs.declared.llc_pdu_type.LlcPduType.{LlcPduType}
@@ -109,7 +109,7 @@ header-reads (BlAck f r) sdu =
 -- So does a frame.
 pub frame-reads : (p : Pdu) (sdu : List ℕ) → reading (frameBits p sdu) ≡ accepted (record { pdu = p; size = length (header p) })
 unfolding frameBits
-frame-reads p sdu = header-reads p sdu
+frame-reads p sdu = header-reads p (sdu ++ checkSequence p sdu)
 
 -- A bit, as the bit of its test.
 bit-one : (b : ℕ) → b < 2 → b ≡ bit (eqb b 1)

@@ -7,3 +7,4 @@ pub mod Holding
 pub mod Laws
 pub mod Received
 pub mod RoundTrip
+pub mod Summing

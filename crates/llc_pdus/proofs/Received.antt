@@ -17,7 +17,8 @@ use Rattle.questions.specs.Outcome.{Outcome, accepted, refused, ask, number}
 use Rattle.questions.proofs.Asked.{content, accepted-passed, by-question, both}
 use Rattle.llc_pdus.specs.Answers.{Frame, headed, pduIn, headFrom, answered, sduOf, framed, readFrom}
 use Rattle.llc_pdus.specs.Headers.{header, Reading, reading, readingOf, hasFcs, lengthOf, kindAt, one}
-use Rattle.llc_pdus.specs.Received.{Received, checks, checkBits, sduBefore, checked, received}
+use Rattle.llc_pdus.specs.Frames.{checkBits}
+use Rattle.llc_pdus.specs.Received.{Received, checks, sduBefore, checked, received}
 use Rattle.llc_pdus.specs.Sdus.{sduAt, headerEnd}
 use Rattle.llc_pdus.specs.declared.headers.Head.{Head}
 use Rattle.llc_pdus.specs.declared.Pdu.{Pdu}

@@ -5,7 +5,8 @@ use lib.Dec.{leb}
 use lib.ListN.{length, take}
 use Rattle.questions.specs.Outcome.{Outcome, accepted, refused, ask}
 use Rattle.llc_pdus.specs.Headers.{Reading, reading, header}
-use Rattle.llc_pdus.specs.Received.{Received, checkBits, received}
+use Rattle.llc_pdus.specs.Frames.{checkBits}
+use Rattle.llc_pdus.specs.Received.{Received, received}
 use Rattle.llc_pdus.specs.Sdus.{sduAt}
 use Rattle.llc_pdus.specs.declared.headers.Head.{Head}
 use Rattle.llc_pdus.specs.declared.Pdu.{Pdu}

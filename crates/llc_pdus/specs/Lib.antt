@@ -1,4 +1,5 @@
 pub mod Answers
+pub mod Frames
 pub mod Headers
 pub mod Received
 pub mod Sdus

@@ -1,13 +1,14 @@
 -- A received frame: questions 9 to 12, its header, and its SDU.
 use Prim.Native.Nat.{ℕ, _-_}
-use mathlib.Core.Bool.{Bool, not, _&&_, _||_, cond}
-use mathlib.Core.List.{List, [], _++_}
+use mathlib.Core.Bool.{Bool, not, _&&_, _||_}
+use mathlib.Core.List.{List}
 use lib.Dec.{eqb, leb}
 use lib.ListN.{length, take, drop}
 use Rattle.bits.specs.Bits.{value}
 use Rattle.fcs.specs.Fcs.{fcsBits, fcs}
 use Rattle.questions.specs.Outcome.{Outcome, accepted, refused, ask}
-use Rattle.llc_pdus.specs.Headers.{header, Reading, reading, hasFcs}
+use Rattle.llc_pdus.specs.Headers.{Reading, reading, hasFcs}
+use Rattle.llc_pdus.specs.Frames.{checkBits}
 use Rattle.llc_pdus.specs.declared.Pdu.{Pdu}
 
 -- A frame taken apart: its header, and its SDU.
@@ -20,21 +21,9 @@ pub record Received : Type 0 where
 unfoldable pub checks : List ℕ → Bool
 checks l = leb fcsBits (length l) && eqb (value (fcs (take (length l - fcsBits) l))) (value (drop (length l - fcsBits) l))
 
--- How many bits of a frame behind its header are check bits.
-abbrev pub checkBits : Pdu → ℕ
-checkBits p = cond (hasFcs p) fcsBits 0
-
 -- "A received SDU ends before its 32 check bits": it is what stands behind the header, less the last 32 bits where the flag is set.
 abbrev pub sduBefore : Pdu → List ℕ → List ℕ
 sduBefore p l = take (length l - checkBits p) l
-
--- The check bits of an SDU, where the FCS flag announces them.
-abbrev pub checkSequence : Pdu → List ℕ → List ℕ
-checkSequence p sdu = cond (hasFcs p) (fcs sdu) []
-
--- A frame as it comes in: the header, the SDU, and behind that its check bits.
-unfoldable pub wholeFrame : Pdu → List ℕ → List ℕ
-wholeFrame p sdu = header p ++ (sdu ++ checkSequence p sdu)
 
 -- "12. FCS flag 0, or at least 32 bits left and the check right?"
 unfoldable pub checked : List ℕ → Outcome Reading → Outcome Received

@@ -1,29 +1,28 @@
--- A frame put together: the header, and the SDU behind it.
+-- A frame written to lent bytes.
 use Prim.Native.Nat.{ℕ, _+_, _^_, _-_, min}
 use mathlib.Core.Bool.{_&&_}
-use mathlib.Core.List.{List, _++_}
+use mathlib.Core.List.{List}
 use lib.Dec.{leb}
 use lib.ListN.{length}
 use Rattle.bits.specs.Bits.{part, splice}
 use Rattle.questions.specs.Outcome.{accepted}
 use Rattle.questions.specs.Effect.{Effect, effect, asked}
-use Rattle.llc_pdus.specs.Headers.{header, Kind, adata, lengthOf}
+use Rattle.fcs.specs.Fcs.{fcsBits}
+use Rattle.llc_pdus.specs.Headers.{Kind, adata, lengthOf}
+use Rattle.llc_pdus.specs.Frames.{frameBits}
 use Rattle.llc_pdus.specs.declared.Pdu.{Pdu}
 
 -- "The SDU, at most 2,595 bits outgoing."
 abbrev pub longest : ℕ
 longest = 2595
 
--- The most bits of a frame that is sent with a header of a type, and of any frame that is sent.
+-- The most bits of a frame that is sent with a header of a type: with check bits. And of any frame that is sent: "outgoing frames
+-- then reach 2,633 bits".
 abbrev pub longestOf : Kind → ℕ
-longestOf k = lengthOf k + longest
+longestOf k = lengthOf k + longest + fcsBits
 
 abbrev pub longestSent : ℕ
 longestSent = longestOf adata
-
--- How a PDU with its SDU looks as a frame: the header, and the SDU behind it.
-unfoldable pub frameBits : Pdu → List ℕ → List ℕ
-frameBits p sdu = header p ++ sdu
 
 -- The frame of a PDU with n bits of s from a place on as its SDU.
 abbrev pub frame : Pdu → List ℕ → ℕ → ℕ → List ℕ

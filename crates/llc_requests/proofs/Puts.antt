@@ -16,7 +16,8 @@ use Rattle.questions.specs.Outcome.{accepted}
 use Rattle.bits.specs.Bits.{splice}
 use Rattle.llc_pdus.specs.declared.Pdu.{Pdu}
 use Rattle.llc_pdus.specs.declared.Pdu.the-variants.{BlAdata, BlData}
-use Rattle.llc_pdus.specs.Writes.{longest, frameBits}
+use Rattle.llc_pdus.specs.Frames.{frameBits}
+use Rattle.llc_pdus.specs.Writes.{longest}
 use Rattle.llc_rule.specs.Limits.{storePlaces}
 use Rattle.llc_rule.specs.Calls.{Request}
 use Rattle.llc_rule.specs.Ranges.{isType, isReceipt, wantsFcs}

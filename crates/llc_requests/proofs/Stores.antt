@@ -10,7 +10,8 @@ use Rattle.bits.proofs.Laws.{bits-append, length-bits, drop-bits, take-bits}
 use Rattle.questions.specs.Outcome.{accepted}
 use Rattle.questions.specs.Effect.{effect, Effect}
 use Rattle.llc_pdus.specs.Answers.{written}
-use Rattle.llc_pdus.specs.Writes.{longest, longestSent, frameBits, written as writtenOf}
+use Rattle.llc_pdus.specs.Frames.{frameBits}
+use Rattle.llc_pdus.specs.Writes.{longest, longestSent, written as writtenOf}
 use Rattle.llc_pdus.specs.declared.Pdu.{Pdu}
 use Rattle.llc_pdus.proofs.Framing.{frame-short, has-room as all-written}
 use Rattle.llc_pdus.specs.declared.Written.{Written}

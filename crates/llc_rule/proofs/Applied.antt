@@ -1,17 +1,18 @@
 -- The theorems applied to the instance: two requests that change places, a request that is handed down four times, a text and an
--- acknowledgement that come with check bits, and a repeat.
+-- acknowledgement that come with check bits, two frames that are handed down with them, and a repeat.
 use Prim.Native.Nat.{ℕ, zero, suc, _<_}
 use native.Mathlib.Omega.{arith}
-use mathlib.Core.Path.{_≡_, _∙_, refl, ap}
+use mathlib.Core.Path.{_≡_, _∙_, refl, sym, ap, subst}
 use mathlib.Core.Bool.{true, false}
-use mathlib.Core.List.{List, [], _∷_, _++_}
-use mathlib.Core.Option.{some}
+use mathlib.Core.List.{List, [], _∷_, _++_, map}
+use mathlib.Core.Option.{none, some, Option·some-injective}
 use borrow.Author.Tests.{ltb-true}
 use lib.Dec.{eqb, ltb}
 use lib.ListN.{length, getD, take, drop}
-use Rattle.lists.specs.Lists.{all}
+use Rattle.lists.specs.Lists.{all, All}
+use Rattle.bits.specs.Bits.{toBits}
 use Rattle.questions.specs.Outcome.{accepted, number}
-use Rattle.llc_pdus.specs.Received.{wholeFrame}
+use Rattle.llc_pdus.specs.Frames.{frameBits}
 use Rattle.llc_pdus.specs.declared.Pdu.the-variants.{BlData, BlAck}
 use Rattle.llc_rule.specs.Calls.{toBytes, Request, Frame, frame, frameIn, parsed}
 use Rattle.llc_rule.specs.Link.{Link, new}
@@ -21,12 +22,15 @@ use Rattle.llc_rule.specs.Runs.{Exchange, exchange, left, run, after}
 use Rattle.llc_rule.specs.Past.{about, belongsTo, doneTo, holders, whose, inPast, nothingYet, andThen, history}
 use Rattle.llc_rule.specs.Seen.{ruleRun, ruled, SeesTheSame}
 use Rattle.llc_rule.specs.Sendings.{requestSpelled, handed, sendings, AtMostFour}
+use Rattle.llc_rule.specs.ReadBack.{Requests, requestsFrom, requestsAfter, ReadAs, Carries, ReadAsReply, ReadBack}
+use Rattle.llc_rule.specs.Records.{Record, acknowledged, reply, unacknowledged, dataUp, unitdataUp, Sent}
 use Rattle.llc_rule.specs.Repeats.{begins, hears, heardIn, lastFrom, WentUp}
 use Rattle.llc_rule.specs.Texts.{textsIn}
 use Rattle.llc_rule.specs.Claim.{whoseAfter}
 use Rattle.llc_rule.proofs.Swap.{swap}
 use Rattle.llc_rule.proofs.Sendings.{four-run}
 use Rattle.llc_rule.proofs.SendingsByRule.{four-ruled}
+use Rattle.llc_rule.proofs.ReadBack.{read-back-run}
 use Rattle.llc_rule.proofs.Repeats.{repeats-run}
 use Rattle.llc_rule.proofs.Texts.{texts-run}
 use Rattle.llc_rule.proofs.Runs.{exchanges}
@@ -79,7 +83,7 @@ secondRequest =
       link = 0xf1e2d3c4;
       endpoint = 0xb5a69788;
       handle = 0x796a5b4c;
-      flags = 0;
+      flags = 2;
       mask = 0;
       receipt = 0x22;
       block = 0x3d ∷ 0x2e ∷ 0x1f ∷ [];
@@ -172,8 +176,8 @@ pub text-spelled : parsed (toldAt 8 .call) ≡ accepted (frame (frameOf textOfFi
 unfolding told
 text-spelled = refl
 
-pub text-framed : frameOf textOfFirst .pdu ≡ wholeFrame (BlData true true) text
-unfolding exchanges toBytes wholeFrame
+pub text-framed : frameOf textOfFirst .pdu ≡ frameBits (BlData true true) text
+unfolding exchanges toBytes frameBits
 text-framed = refl
 
 pub text-accepted : toldAt 8 .number ≡ 0
@@ -186,23 +190,88 @@ text-instance =
     texts-run instanceCalls .each (take 8 told) (toldAt 8) (drop 9 told) (at-one 8 refl) .up
     (frameOf textOfFirst) (BlData true true) text text-spelled text-framed text-accepted
 
-pub ack-spelled : parsed (toldAt 23 .call) ≡ accepted (frame (frameOf ackOfFirst))
+pub ack-spelled : parsed (toldAt 24 .call) ≡ accepted (frame (frameOf ackOfFirst))
 unfolding told
 ack-spelled = refl
 
-pub ack-framed : frameOf ackOfFirst .pdu ≡ wholeFrame (BlAck true false) []
-unfolding exchanges toBytes wholeFrame
+pub ack-framed : frameOf ackOfFirst .pdu ≡ frameBits (BlAck true false) []
+unfolding exchanges toBytes frameBits
 ack-framed = refl
 
-pub ack-accepted : toldAt 23 .number ≡ 0
+pub ack-accepted : toldAt 24 .number ≡ 0
 unfolding told
 ack-accepted = refl
 
-pub ack-instance : textsIn (toldAt 23 .records) ≡ []
+pub ack-instance : textsIn (toldAt 24 .records) ≡ []
 unfolding told
 ack-instance =
-    texts-run instanceCalls .each (take 23 told) (toldAt 23) (drop 24 told) (at-one 23 refl) .up
+    texts-run instanceCalls .each (take 24 told) (toldAt 24) (drop 25 told) (at-one 24 refl) .up
     (frameOf ackOfFirst) (BlAck true false) [] ack-spelled ack-framed ack-accepted
+
+-- The order to the second address and the BL-ACK that takes an SDU along are handed down with check bits, and read back by them.
+abbrev pub stealRequest : Request
+stealRequest =
+    record {
+      ssi = 0x0a3e91;
+      type = 1;
+      given = 1;
+      carrier = 0x3c4d;
+      link = 0xd1c2b3a4;
+      endpoint = 0x95867768;
+      handle = 0x594a3b2c;
+      flags = 3;
+      mask = 0;
+      receipt = 0x44;
+      block = 0x5e ∷ [];
+      sdu = 1 ∷ 0 ∷ 1 ∷ 1 ∷ 0 ∷ 1 ∷ [];
+    }
+
+abbrev pub orderBits : List ℕ
+orderBits = toBits 46 0x154b51c5045d
+
+abbrev pub ackBits : List ℕ
+ackBits = toBits 43 0x3edba6c1fe1
+
+-- The bits that a record hands down.
+abbrev pub handedBits : Record → List ℕ
+handedBits (acknowledged s) = s .pdu
+handedBits (reply r) = r .pdu
+handedBits (unacknowledged s) = s .pdu
+handedBits (dataUp i) = []
+handedBits (unitdataUp i) = []
+
+pub bits-handed : map handedBits (toldAt 13 .records)
+    ≡ toBits 17 0x022e7d ∷ orderBits ∷ toBits 5 0x07 ∷ toBits 5 0x06 ∷ toBits 11 0x165 ∷ ackBits ∷ []
+unfolding told toBits
+bits-handed = refl
+
+pub requests-then : requestsAfter (take 13 told) 0x22 ∷ requestsAfter (take 13 told) 0x44 ∷ [] ≡ some secondRequest ∷ some stealRequest ∷ []
+unfolding told requestsFrom doneTo about
+requests-then = refl
+
+pub requests-freed : requestsAfter (take 39 told) 0x22 ≡ none
+unfolding told requestsFrom doneTo about
+requests-freed = refl
+
+-- By the request that holds its receipt.
+read-by : (h : Requests) (s : Sent) (r : Request) → h (s .receipt) ≡ some r → Carries h s → ReadAs r (s .pdu)
+read-by h s r e c = subst (λ (x : Request). ReadAs x (s .pdu)) (Option·some-injective (c .request) r (sym (c .holds) ∙ e)) (c .reads)
+
+read-then : All (ReadBack (requestsAfter (take 13 told))) (toldAt 13 .records)
+unfolding told
+read-then = read-back-run instanceCalls .each (take 13 told) (toldAt 13) (drop 14 told) (at-one 13 refl)
+
+pub order-read : ReadAs secondRequest orderBits
+unfolding told toBits requestsFrom doneTo about
+order-read = read-by (requestsAfter (take 13 told)) _ secondRequest refl (read-then .1 .0)
+
+pub ack-read : ReadAs stealRequest ackBits
+unfolding told toBits requestsFrom doneTo about
+ack-read = read-by (requestsAfter (take 13 told)) _ stealRequest refl (read-then .1 .1 .1 .1 .1 .0)
+
+pub reply-read : ReadAsReply (toBits 5 0x07)
+unfolding told toBits
+reply-read = read-then .1 .1 .0
 
 -- The text is the first since the start, and goes up; its repeat does not, with a call of the other address between; the next has
 -- another N(S), and goes up though it is empty.

@@ -11,6 +11,7 @@ use Rattle.llc_rule.proofs.Demand3.{demand3}
 use Rattle.llc_rule.proofs.Swap.{swap}
 use Rattle.llc_rule.proofs.UnderWay.{one-under-way, one-among-held}
 use Rattle.llc_rule.proofs.WhereTransmitted.{where-transmitted, where-transmitted-by-rule}
+use Rattle.llc_rule.proofs.ReadBack.{read-back-run}
 use Rattle.llc_rule.proofs.Repeats.{repeats-run}
 use Rattle.llc_rule.proofs.Texts.{texts-run}
 use Rattle.llc_rule.proofs.Sendings.{four-run}
@@ -34,6 +35,7 @@ claims =
       whereTransmittedByRule = where-transmitted-by-rule;
       texts = texts-run;
       repeats = repeats-run;
+      readBack = read-back-run;
       four = four-run;
       fourByRule = four-ruled;
     }

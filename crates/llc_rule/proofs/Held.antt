@@ -146,13 +146,13 @@ module _ (C : ℕ → Type 0) (P : Sent → Type 0) (D : Due → Type 0) where
         (record { carrier = h .carrier; acknowledged = all .1; unacknowledged = h .unacknowledged; due = h .due })
         (record { carrier = h .carrier; acknowledged = all; unacknowledged = h .unacknowledged; due = h .due })
 
-    answered-held : (f : Frame) (nr : Option Bool) → AllHeld (answered f nr l)
+    pub answered-held : (f : Frame) (nr : Option Bool) → AllHeld (answered f nr l)
     unfolding awaiting
     answered-held f none = h
     answered-held f (some nr) = answered-by-held nr _ (awaiting f l) (find-by _ (l .acknowledged))
 
   module _ (l : Link) (h : AllHeld l) where
-    numbered-held :
+    pub numbered-held :
         (f : Frame) (ns : Option Bool)
         → ((ns : Bool) (slot : ℕ) → D (record { ssi = f .ssi; type = f .type; carrier = f .carrier; nr = ns; slot = slot }))
         → AllHeld (numbered f ns l)

@@ -1,6 +1,6 @@
 -- A run that meets the hypotheses of the theorems: two addresses, records of all five kinds, a repeat, a message moved to the
--- front, one that is acknowledged and one that is handed down four times and lost, releases, a receipt that serves again, refused calls, and
--- no call that is hindered.
+-- front, one that is acknowledged, one with an FCS that is handed down four times and lost, and an acknowledgement with an FCS that takes
+-- an SDU along; releases, a receipt that serves again, refused calls, and no call that is hindered.
 use Prim.Native.Nat.{ℕ}
 use mathlib.Core.Path.{_≡_, refl}
 use mathlib.Core.Bool.{Bool, true}
@@ -27,7 +27,7 @@ abbrev toFirst : List ℕ
 toFirst = hex 65 0x010001010200030a3e91030001010400022a6b050004000000000600045465768707000498a9bacb080001000900010d0a0001110b0002c5d60c00050011173e80
 
 abbrev toSecond : List ℕ
-toSecond = hex 61 0x010001010200035bc72d0300010104000205fa05000400000000060004b5a69788070004796a5b4c080001000a0001220b00033d2e1f0c0004000e152c
+toSecond = hex 65 0x010001010200035bc72d0300010104000205fa05000400000000060004b5a69788070004796a5b4c080001000a0001220b00033d2e1f0c0008002e552d47141174
 
 -- A call before the start is refused; then a start, a time, and bytes that are no call.
 unfoldable pub opening : List Told
@@ -38,15 +38,15 @@ opening =
     ∷ hex 3 0x290000 gets 3
     ∷ []
 
--- A request to each address.
+-- A request to each address, to the second with an FCS.
 abbrev pub askFirst : List ℕ
 askFirst = hex 32 0x24001d0a3e9101012a6b102132435465768798a9bacb040d1102c5d6000ce7d0
 
 abbrev pub askSecond : List ℕ
-askSecond = hex 33 0x24001e5bc72d01000000f1e2d3c4b5a69788796a5b4c000022033d2e1f0009a580
+askSecond = hex 33 0x24001e5bc72d01000000f1e2d3c4b5a69788796a5b4c020022033d2e1f0009a580
 
--- A text with an FCS from the first address, a repeat of it with another PDU, type, carrier and SDU, an empty one with another
--- N(S), and an acknowledgement with an FCS and nothing else.
+-- A text with an FCS from the first address, a repeat of it with another PDU, type, carrier and SDU, and an empty one with
+-- another N(S).
 abbrev pub textOfFirst : List ℕ
 textOfFirst = hex 29 0x26001a0a3e91013c4d5e6f708192a3b4c503d6e7f8002c5ce2f0c8fd80
 
@@ -56,6 +56,11 @@ repeatOfFirst = hex 22 0x2600130a3e91024d3ce1d2c3b4a596877800000b06c0
 abbrev pub newOfFirst : List ℕ
 newOfFirst = hex 21 0x2600120a3e91012b6ac1d2e3f40516273800000510
 
+-- A request that steals, with an FCS, and takes along the acknowledgement that is due for the text.
+abbrev pub stealToFirst : List ℕ
+stealToFirst = hex 30 0x24001b0a3e9101013c4dd1c2b3a495867768594a3b2c030044015e0006b4
+
+-- An acknowledgement with an FCS and nothing else.
 abbrev pub ackOfFirst : List ℕ
 ackOfFirst = hex 25 0x2600160a3e91012a6b4e5f60718293a4b50000257000000000
 
@@ -63,7 +68,8 @@ ackOfFirst = hex 25 0x2600160a3e91012a6b4e5f60718293a4b50000257000000000
 unfoldable pub following : List ℕ → List ℕ → List Told
 following one other =
     -- A report for a message that waits; an unacknowledged message; an SDU for each address, of which one has an FCS and
-    -- asks for a reply; its repeat, of which nothing goes up, and a new one. Each of the three is acknowledged.
+    -- asks for a reply; its repeat, of which nothing goes up, and a new one. Each of the three is acknowledged, the first by a
+    -- request that steals.
     hex 5 0x2700021101 gets 15
     ∷ hex 31 0x25001c0a3e9102017c8d0e1f2031425364758697a8b9050b3302cadb0007ca gets 0
     ∷ textOfFirst gets 0
@@ -72,11 +78,12 @@ following one other =
     and hex 43 0x010001050200035bc72d0300010105000400000000060004708192a30b0001b40d0001000c00040009d280
     ∷ repeatOfFirst gets 0
     ∷ newOfFirst gets 0 and hex 35 0x010001040200030a3e9103000101050004c1d2e3f4060004051627380b00000d000100
+    ∷ stealToFirst gets 0
     ∷ hex 3 0x230000 gets 0 and one and other
-    and hex 54 0x010001020200030a3e91030001010400023c4d05000400000003060004000000000700040000000008000101090001040c0003000538
     and hex 54 0x010001020200030a3e91030001020400024d3c05000400000003060004000000000700040000000008000101090001040c0003000538
     and hex 54 0x010001020200030a3e91030001010400022b6a05000400000003060004000000000700040000000008000101090001040c0003000530
     and hex 64 0x010001030200030a3e91030001020400027c8d0500040e1f2031060004425364750700048697a8b9080001010900010b0a0001330b0002cadb0c0004000b2ca0
+    and hex 63 0x010001030200030a3e91030001010400023c4d050004d1c2b3a406000495867768070004594a3b2c080001010a0001440b00015e0c0008002b7db74d83fc20
     -- A release of a receipt whose message is held. Both are reported transmitted, and the next tick end notes it.
     ∷ hex 4 0x28000111 gets 16
     ∷ hex 5 0x2700021101 gets 0

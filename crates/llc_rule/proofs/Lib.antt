@@ -24,6 +24,7 @@ pub mod SendingsByRule
 pub mod Demand3
 pub mod Swap
 pub mod UnderWay
+pub mod ReadBack
 pub mod Repeats
 pub mod Texts
 pub mod WhereTransmitted

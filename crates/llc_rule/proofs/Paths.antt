@@ -20,6 +20,7 @@ use Rattle.llc_pdus.specs.declared.Pdu.the-variants.{BlUdata, BlAck}
 use Rattle.llc_pdus.specs.Received.{Received, checks, checked, received}
 use Rattle.llc_rule.specs.Calls.{Call, start, tickStart, tickEnd, request, frame, byReceipt, Service, tlData, tlUnitdata, Action, report, release, Request, Frame, isStart, Tag, tag21, tag22, tag23, tag24, tag25, tag26, tag27, tag28, unknown, tagOf, filledFrom, inner, filled, parsed}
 use Rattle.llc_rule.specs.Ranges.{steals, wantsFcs, isReceipt, requestInRange, frameInRange, actionInRange, inRange}
+use Rattle.llc_rule.specs.ReadBack.{flagIn}
 use Rattle.llc_rule.specs.Records.{Record}
 use Rattle.llc_rule.specs.Upward.{upward}
 use Rattle.llc_rule.specs.Messages.{Due, free, mark, markOf}
@@ -142,12 +143,14 @@ pub record Acknowledged (r : Request) (l : Link) : Type 0 where
   pub row : rowFor (r .ssi) l ≡ true
   pub place : acknowledgedPlace l ≡ true
 
--- And among the unacknowledged ones: link id 0 or its own, and a due acknowledgement that it uses up or none.
-pub record Unacknowledged (r : Request) (k : ℕ) (f : Found Due) (l : Link) : Type 0 where
+-- And among the unacknowledged ones: link id 0 or its own, a header with its flag, and a due acknowledgement that it uses up or
+-- none.
+pub record Unacknowledged (r : Request) (k : ℕ) (p : Pdu) (f : Found Due) (l : Link) : Type 0 where
   pub range : requestInRange r ≡ true
   pub free : receiptFree r l ≡ true
   pub place : unacknowledgedPlace l ≡ true
   pub link : k ≤ r .link
+  pub flag : hasFcs p ≡ flagIn r p
   pub used : TakenOut (isDueFor r l) (l .due) f
 
 -- A frame that was heard.
@@ -180,7 +183,7 @@ pub record Paths (l : Link) (P : Call → Link → List Record → Type 0) : Typ
   pub acknowledged : (r : Request) → Acknowledged r l → P (request tlData r) (withAcknowledged r l) []
   pub unacknowledged :
       (s : Service) (r : Request) (link : ℕ) (p : Pdu) (used : Found Due)
-      → Unacknowledged r link used l
+      → Unacknowledged r link p used l
       → P (request s r) (withUnacknowledged r link p (others used (l .due)) l) []
   pub heard :
       (f : Frame) (r : Received)
@@ -210,11 +213,11 @@ module _ (l : Link) (P : Call → Link → List Record → Type 0) (paths : Path
   stolen-law r Q if-accepted range fr place nothing out =
       if-accepted _
       (paths .unacknowledged tlData r 0 (BlUdata false) nothing
-      (record { range = range; free = fr; place = place; link = omega arith; used = out }))
+      (record { range = range; free = fr; place = place; link = omega arith; flag = refl; used = out }))
   stolen-law r Q if-accepted range fr place (first d ds) out =
       if-accepted _
       (paths .unacknowledged tlData r (r .link) (BlAck (wantsFcs r) (d .nr)) (first d ds)
-      (record { range = range; free = fr; place = place; link = omega arith; used = out }))
+      (record { range = range; free = fr; place = place; link = omega arith; flag = refl; used = out }))
 
   data-law :
       (r : Request) (Q : Outcome (Done Link) → Type 0)
@@ -248,7 +251,7 @@ module _ (l : Link) (P : Call → Link → List Record → Type 0) (paths : Path
       by-question Q 8 (unacknowledgedPlace l) (if-refused 8 refl) λ place.
       if-accepted _
       (paths .unacknowledged tlUnitdata r (r .link) (BlUdata false) nothing
-      (record { range = range; free = fr; place = place; link = omega arith; used = tt }))
+      (record { range = range; free = fr; place = place; link = omega arith; flag = refl; used = tt }))
 
   heard-law :
       (f : Frame) (Q : Outcome (Done Link) → Type 0)

@@ -490,8 +490,11 @@ small-sent k s h =
     let m = mask-size (s .mask) in
     omega (arith, h .block, h .pdu)
 
--- A reply with the five bits of a BL-ACK takes at most 54.
-pub small-reply : (r : Reply) → length (r .pdu) ≡ 5 → length (replyBytes r) ≤ 54
+-- And a reply with the five bits of a BL-ACK: its fields with a mask, and one byte.
+abbrev pub mostReply : ℕ
+mostReply = 53 + 1
+
+pub small-reply : (r : Reply) → length (r .pdu) ≡ 5 → length (replyBytes r) ≤ mostReply
 small-reply r h =
     let n = length-reply r in
     let m = mask-size (r .mask) in

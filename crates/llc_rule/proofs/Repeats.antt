@@ -11,7 +11,8 @@ use Rattle.lists.specs.Lists.{all, Found, nothing, first, firstOr}
 use Rattle.lists.proofs.Choices.{by-test, either, both, clash}
 use Rattle.questions.specs.Outcome.{Outcome, accepted}
 use Rattle.llc_pdus.specs.Headers.{nsOf, nrOf}
-use Rattle.llc_pdus.specs.Received.{Received, received, wholeFrame}
+use Rattle.llc_pdus.specs.Frames.{frameBits}
+use Rattle.llc_pdus.specs.Received.{Received, received}
 use Rattle.llc_pdus.specs.declared.Pdu.{Pdu}
 use Rattle.llc_pdus.specs.declared.Pdu.the-variants.{BlAdata, BlData, BlUdata, BlAck}
 use Rattle.llc_pdus.proofs.CheckBits.{frame-received}
@@ -276,7 +277,7 @@ repeats-run cs = repeats-stop (run new cs) (stops-run cs)
 pub hears-framed :
     (e : Exchange) (f : Frame) (p : Pdu) (text : List ℕ) (ns : Bool)
     → parsed (e .call) ≡ accepted (frame f)
-    → f .pdu ≡ wholeFrame p text
+    → f .pdu ≡ frameBits p text
     → nsOf p ≡ some ns
     → e .number ≡ 0
     → heardIn e ≡ hears (f .ssi) ns text

@@ -8,6 +8,7 @@ use mathlib.Core.Option.{Option, none, some}
 use lib.Dec.{ltb}
 use lib.ListN.{length, length-append}
 use Rattle.lists.specs.Lists.{Visit, walk, among, All}
+use Rattle.lists.proofs.Lists.{all-unit}
 use Rattle.lists.proofs.Choices.{by-test, either}
 use Rattle.tdma_time.specs.declared.TdmaTime.{TdmaTime}
 use Rattle.llc_pdus.specs.declared.Pdu.{Pdu}
@@ -27,7 +28,7 @@ use Rattle.llc_rule.specs.Runs.{left, given, after}
 use Rattle.llc_rule.specs.Sound.{Within}
 use Rattle.llc_rule.specs.Sizes.{SmallSent, Small}
 use Rattle.llc_rule.proofs.Paths.{Heard, Paths, sent-up, step-law}
-use Rattle.llc_rule.proofs.Records.{mostSent, small-sent, small-reply, small-indication}
+use Rattle.llc_rule.proofs.Records.{mostSent, mostReply, small-sent, small-reply, small-indication}
 use Rattle.llc_rule.proofs.Ranges.{frame-lengths, request-lengths}
 use Rattle.llc_rule.proofs.Held.{passed-retransmissions, passed-firsts, AllHeld, Brings, held-step}
 
@@ -148,13 +149,9 @@ modest-firsts l =
 
 -- Tick end ----------------------------------------------------------------------------------------------------------------
 
-reply-at-most : (d : Due) → Unit {0} → AtMost 54 (replyTo d)
+reply-at-most : (d : Due) → Unit {0} → AtMost mostReply (replyTo d)
 unfolding replyTo bytes
 reply-at-most d h = small-reply _ refl
-
-all-unit : {A : Type 0} (l : List A) → All (λ (a : A). Unit {0}) l
-all-unit [] = tt
-all-unit (a ∷ l) = (tt, all-unit l)
 
 four : (p q r s : List Record) → length (allBytes (p ++ (q ++ (r ++ s))))
     ≡ length (allBytes p) + (length (allBytes q) + (length (allBytes r) + length (allBytes s)))
@@ -168,10 +165,14 @@ tick-end-room l w h =
     let firsts = passed-firsts SmallSent (AtMost mostSent) acknowledged-at-most l (h .acknowledged) in
     let a = bytes-in-all mostSent (retransmissions l .out) (again .out) in
     let b = bytes-in-all mostSent (firstSendings l .out) (firsts .out) in
-    let c = map-at-most 54 (λ (d : Due). Unit {0}) replyTo reply-at-most (l .due) (all-unit (l .due)) in
+    let c = map-at-most mostReply (λ (d : Due). Unit {0}) replyTo reply-at-most (l .due) (all-unit (l .due)) in
     let d = map-at-most mostSent SmallSent unacknowledged unacknowledged-at-most (l .unacknowledged) (h .unacknowledged) in
     rw (four (retransmissions l .out) (firstSendings l .out) (map replyTo (l .due)) (map unacknowledged (l .unacknowledged)))
     (omega (arith, modest-retransmissions l, modest-firsts l, w .acknowledged, w .due, w .unacknowledged))
+
+-- It is no more than that: 96 messages and 64 replies of the longest kind.
+pub no-slack : outputBytes ≡ 96 * mostSent + 64 * mostReply
+no-slack = refl
 
 -- Any call ----------------------------------------------------------------------------------------------------------------
 

@@ -11,6 +11,7 @@ pub mod Orders
 pub mod Checks
 pub mod CheckBits
 pub mod Repeats
+pub mod Announced
 use Prim.Native.Nat.{ℕ, zero, suc}
 use mathlib.Core.Bool.{Bool, true, false, _&&_}
 use mathlib.Core.List.{List, [], _∷_, _++_, map}
@@ -20,7 +21,7 @@ use Rattle.bits.specs.Bits.{toBits, value, bits}
 use Rattle.tdma_time.specs.Modulo.{modulo}
 use Rattle.tdma_time.specs.Slots.{slots, timeAt, plus as plusSlots, centred, minus, valid}
 use Rattle.llc_pdus.specs.Headers.{reading}
-use Rattle.llc_pdus.specs.Writes.{frameBits}
+use Rattle.llc_pdus.specs.Frames.{frameBits}
 use Rattle.fcs.specs.Polynomials.{plus, divisor, rest}
 use Rattle.fcs.specs.Fcs.{start, fcs}
 use Rattle.llc_pdus.specs.Received.{checks, checked, received}

@@ -244,7 +244,7 @@ acknowledged-other a r h l k e lt =
 
 pub unacknowledged-other :
     (a : ℕ) (r : Request) (h : Holders) (l : Link) (link : ℕ) (p : Pdu) (used : Found Due)
-    → Unacknowledged r link used l
+    → Unacknowledged r link p used l
     → eqb (r .ssi) a ≡ false
     → r .receipt < length (l .receipts)
     → own a (holding (r .receipt) (some (r .ssi)) h) (withUnacknowledged r link p (others used (l .due)) l) ≡ own a h l

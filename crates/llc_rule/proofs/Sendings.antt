@@ -443,7 +443,7 @@ module _ (h : Holders) (l : Link) (sound : Sound h l) where
 
   begun-unacknowledged :
       (r : Request) (link : ℕ) (p : Pdu) (used : Found Due) (ds : List Due)
-      → Unacknowledged r link used l
+      → Unacknowledged r link p used l
       → Begun r (withUnacknowledged r link p ds l)
   unfolding withUnacknowledged
   begun-unacknowledged r link p used ds a =

@@ -265,7 +265,7 @@ sound-with-acknowledged h l r a s =
 
 pub sound-with-unacknowledged :
     (h : Holders) (l : Link) (r : Request) (link : ℕ) (p : Pdu) (used : Found Due)
-    → Unacknowledged r link used l
+    → Unacknowledged r link p used l
     → Sound h l
     → Sound (holding (r .receipt) (some (r .ssi)) h) (withUnacknowledged r link p (others used (l .due)) l)
 unfolding withUnacknowledged sentOf

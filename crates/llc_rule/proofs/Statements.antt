@@ -2,7 +2,7 @@
 use Prim.Native.Nat.{ℕ}
 use mathlib.Core.Path.{_≡_, refl}
 use mathlib.Core.Bool.{Bool, true, false}
-use mathlib.Core.List.{List, [], _∷_, map}
+use mathlib.Core.List.{List, [], _∷_, _++_, map}
 use mathlib.Core.Option.{Option, none, some}
 use lib.Dec.{eqb}
 use lib.ListN.{length, set, replicate}
@@ -10,12 +10,12 @@ use Rattle.lists.specs.Lists.{keep, any, all}
 use Rattle.questions.specs.Outcome.{number}
 use Rattle.tx_receipt.specs.Marks.{discarded}
 use Rattle.tx_receipt.specs.declared.TxState.the-variants.{Transmitted}
-use Rattle.llc_pdus.specs.Received.{wholeFrame}
+use Rattle.llc_pdus.specs.Frames.{frameBits}
 use Rattle.llc_pdus.specs.Writes.{longest}
 use Rattle.llc_pdus.specs.declared.Pdu.{Pdu}
 use Rattle.llc_pdus.specs.declared.Pdu.the-variants.{BlAdata, BlData, BlUdata, BlAck}
 use Rattle.llc_rule.specs.Limits.{longestFrame, storeBytes, outputBytes}
-use Rattle.llc_rule.specs.Calls.{toBytes}
+use Rattle.llc_rule.specs.Calls.{toBytes, Request}
 use Rattle.llc_rule.specs.Records.{Record, acknowledged, reply, unacknowledged, dataUp, unitdataUp, Sent, Indication}
 use Rattle.llc_rule.specs.Messages.{Place, free, taken, pending, marked}
 use Rattle.llc_rule.specs.Keeps.{withReceipts}
@@ -26,6 +26,7 @@ use Rattle.llc_rule.specs.Runs.{Exchange, after}
 use Rattle.llc_rule.specs.Past.{about, Holders, nobody, doneTo, holders, everybody's, nobody's, belongsTo, whose, inPast, nothingYet, andThen, history, past, strays, holdersAfter, sight, heldBy, takenFrom}
 use Rattle.llc_rule.specs.Seen.{ruleRun, unhindered}
 use Rattle.llc_rule.specs.Sendings.{handed, sendings}
+use Rattle.llc_rule.specs.ReadBack.{flagIn}
 use Rattle.llc_rule.specs.Repeats.{heardIn, lastFrom, lastHeard, noneFrom}
 use Rattle.llc_rule.specs.Texts.{textsIn, shown}
 use Rattle.llc_rule.proofs.Runs.{hex, exchanges}
@@ -95,8 +96,33 @@ indication a = record { ssi = a; type = 1; link = 0; endpoint = 0x92a3b4c5; bloc
 abbrev told : List ℕ → ℕ → List Record → Exchange
 told c n rs = record { call = c; number = n; records = rs }
 
+-- A request with flags, and the FCS flag that its frame should have: the one that it asks for, whatever the PDU has, in a BL-UDATA
+-- none.
+abbrev asking : ℕ → Request
+asking flags =
+    record {
+      ssi = first;
+      type = 1;
+      given = 0;
+      carrier = 0;
+      link = 0;
+      endpoint = 0;
+      handle = 0;
+      flags = flags;
+      mask = 0;
+      receipt = 0;
+      block = [];
+      sdu = [];
+    }
+
+flags-asked :
+    map (flagIn (asking 2)) (BlAdata false true true ∷ BlData false true ∷ BlUdata true ∷ BlAck false true ∷ [])
+    ++ map (flagIn (asking 5)) (BlAdata true true true ∷ BlData true true ∷ BlUdata true ∷ BlAck true true ∷ [])
+    ≡ true ∷ true ∷ false ∷ true ∷ false ∷ false ∷ false ∷ false ∷ []
+flags-asked = refl
+
 -- Document 01's lengths, as it gives them.
-lengths : longestFrame ∷ longest ∷ storeBytes ∷ outputBytes ∷ [] ≡ 2633 ∷ 2595 ∷ 32256 ∷ 46656 ∷ []
+lengths : longestFrame ∷ longest ∷ storeBytes ∷ outputBytes ∷ [] ≡ 2633 ∷ 2595 ∷ 32256 ∷ 47040 ∷ []
 lengths = refl
 
 -- The numbers from 0 to 24.
@@ -304,9 +330,9 @@ last-told = refl
 
 -- Document 01's frame of 010111 and 32 ones, and the same text without the flag.
 frames-whole :
-    wholeFrame (BlData true true) (1 ∷ []) ∷ wholeFrame (BlData false true) (1 ∷ []) ∷ []
+    frameBits (BlData true true) (1 ∷ []) ∷ frameBits (BlData false true) (1 ∷ []) ∷ []
     ≡ (0 ∷ 1 ∷ 0 ∷ 1 ∷ 1 ∷ 1 ∷ replicate 32 1) ∷ (0 ∷ 0 ∷ 0 ∷ 1 ∷ 1 ∷ 1 ∷ []) ∷ []
-unfolding wholeFrame exchanges
+unfolding frameBits exchanges
 frames-whole = refl
 
 -- The rule answers each call from what it kept of those before it.

@@ -11,7 +11,8 @@ use Rattle.bits.specs.Bits.{AllBits}
 use Rattle.questions.specs.Outcome.{Outcome, accepted, number}
 use Rattle.questions.proofs.Asked.{content, by-question}
 use Rattle.llc_pdus.specs.Headers.{nsOf, nrOf}
-use Rattle.llc_pdus.specs.Received.{Received, received, wholeFrame}
+use Rattle.llc_pdus.specs.Frames.{frameBits}
+use Rattle.llc_pdus.specs.Received.{Received, received}
 use Rattle.llc_pdus.specs.declared.Pdu.{Pdu}
 use Rattle.llc_pdus.specs.declared.Pdu.the-variants.{BlAdata, BlData, BlUdata, BlAck}
 use Rattle.llc_pdus.proofs.CheckBits.{frame-received, received-frame}
@@ -56,7 +57,7 @@ unless-repeat f (some ns) l up = unless-last (lastIn (f .ssi) l) ns up
 record FrameUp (l : Link) (f : Frame) (rs : List Record) : Type 0 where
   texts :
       (p : Pdu) (text : List ℕ)
-      → f .pdu ≡ wholeFrame p text
+      → f .pdu ≡ frameBits p text
       → textsIn rs ≡ unlessLast (lastIn (f .ssi) l) (nsOf p) (shown p text)
   framed : AllBits (f .pdu) → Framed (f .pdu)
 

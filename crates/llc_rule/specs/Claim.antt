@@ -13,6 +13,7 @@ use Rattle.llc_rule.specs.Past.{Whose, belongsTo, whose, holdersAfter}
 use Rattle.llc_rule.specs.Seen.{calls, unhindered, ruled, keptByRule, SeesItsOwnPast, SeesTheSame, countUnderWay, MarkedWhereTransmitted}
 use Rattle.llc_rule.specs.Sendings.{EachAtMostFour}
 use Rattle.llc_rule.specs.Sound.{ofAddress}
+use Rattle.llc_rule.specs.ReadBack.{AllReadBack}
 use Rattle.llc_rule.specs.Repeats.{RepeatsStop}
 use Rattle.llc_rule.specs.Texts.{TextsGoUp}
 
@@ -61,6 +62,8 @@ pub record Claims
   pub texts : (cs : List C) → TextsGoUp (run cs)
   -- "A frame with that same N(S) .. nothing goes up", whatever was refused.
   pub repeats : (cs : List C) → RepeatsStop (run cs)
+  -- "Every frame written with the flag carries the FCS of its SDU": what is handed down is read back, whatever was refused.
+  pub readBack : (cs : List C) → AllReadBack (run cs)
   -- Of every request that is accepted, at most four sendings, all the same, by its records: whatever was refused, and "by that
   -- rule .. each is handed down at most four times".
   pub four : (cs : List C) → EachAtMostFour (run cs)

@@ -20,6 +20,6 @@ placeBits = 8 * placeBytes
 abbrev pub storeBytes : ℕ
 storeBytes = storePlaces * placeBytes
 
--- "The output at least 46,656" bytes.
+-- "Question 1 wants an output of at least 47,040 bytes."
 abbrev pub outputBytes : ℕ
-outputBytes = 46656
+outputBytes = 47040

@@ -14,7 +14,7 @@ use Rattle.tx_receipt.specs.Marks.{Mark}
 use Rattle.tx_receipt.specs.declared.TxState.the-variants.{Pending, Discarded, Transmitted}
 use Rattle.tx_receipt.specs.declared.TxReceipt.{TxReceipt}
 use Rattle.llc_pdus.specs.Headers.{header}
-use Rattle.llc_pdus.specs.Writes.{frameBits}
+use Rattle.llc_pdus.specs.Frames.{frameBits}
 use Rattle.llc_pdus.specs.declared.Pdu.{Pdu}
 use Rattle.llc_pdus.specs.declared.Pdu.the-variants.{BlAck}
 use Rattle.llc_rule.specs.Calls.{Request}

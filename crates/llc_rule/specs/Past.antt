@@ -57,21 +57,28 @@ about bytes = aboutRead (parsed bytes)
 
 -- Who holds what ------------------------------------------------------------------------------------------------------------
 
--- Who holds each receipt: the SSI of a request, or nobody.
-abbrev pub Holders : Type 0
-Holders = ℕ → Option ℕ
+-- What is known of the request that holds each receipt; none where nobody holds it.
+abbrev pub HeldBy : Type 0 → Type 0
+HeldBy A = ℕ → Option A
 
-abbrev pub nobody : Holders
+abbrev pub nobody : {A : Type 0} → HeldBy A
 nobody i = none
 
-abbrev pub holding : ℕ → Option ℕ → Holders → Holders
+abbrev pub holding : {A : Type 0} → ℕ → Option A → HeldBy A → HeldBy A
 holding i who h j = cond (eqb j i) who (h j)
 
+abbrev pub takenBy : {A : Type 0} → (Request → A) → Holding → HeldBy A → HeldBy A
+takenBy known empties h = nobody
+takenBy known (takes r) h = holding (r .receipt) (some (known r)) h
+takenBy known (frees i) h = holding i none h
+takenBy known stays h = h
+
+-- Who holds each receipt: the SSI of a request, or nobody.
+abbrev pub Holders : Type 0
+Holders = HeldBy ℕ
+
 abbrev pub heldAfter : Holding → Holders → Holders
-heldAfter empties h = nobody
-heldAfter (takes r) h = holding (r .receipt) (some (r .ssi)) h
-heldAfter (frees i) h = holding i none h
-heldAfter stays h = h
+heldAfter x h = takenBy (λ (r : Request). r .ssi) x h
 
 -- What an exchange does to holding: an accepted call has number 0.
 unfoldable pub doneTo : Exchange → Holding

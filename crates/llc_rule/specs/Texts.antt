@@ -8,7 +8,7 @@ use mathlib.Core.Option.{Option, none, some}
 use Rattle.lists.specs.Lists.{among}
 use Rattle.questions.specs.Outcome.{accepted}
 use Rattle.llc_pdus.specs.Headers.{nsOf}
-use Rattle.llc_pdus.specs.Received.{wholeFrame}
+use Rattle.llc_pdus.specs.Frames.{frameBits}
 use Rattle.llc_pdus.specs.declared.Pdu.{Pdu}
 use Rattle.llc_pdus.specs.declared.Pdu.the-variants.{BlAdata, BlData, BlUdata, BlAck}
 use Rattle.llc_rule.specs.Calls.{Frame, frame, parsed}
@@ -38,7 +38,7 @@ shown (BlAck fcs nr) (b ∷ text) = (b ∷ text) ∷ []
 pub record Framed (l : List ℕ) : Type 0 where
   pub pdu : Pdu
   pub text : List ℕ
-  pub is : l ≡ wholeFrame pdu text
+  pub is : l ≡ frameBits pdu text
 
 -- Of a repeat nothing: by the last N(S) accepted from its address, and its own.
 abbrev pub unlessLast : Option Bool → Option Bool → List (List ℕ) → List (List ℕ)
@@ -53,12 +53,12 @@ pub record TextGoesUp (before : List Exchange) (e : Exchange) : Type 0 where
   pub read :
       (f : Frame) (p : Pdu) (text : List ℕ)
       → parsed (e .call) ≡ accepted (frame f)
-      → f .pdu ≡ wholeFrame p text
+      → f .pdu ≡ frameBits p text
       → among (e .number) (9 ∷ 10 ∷ 11 ∷ 12 ∷ []) ≡ false
   pub up :
       (f : Frame) (p : Pdu) (text : List ℕ)
       → parsed (e .call) ≡ accepted (frame f)
-      → f .pdu ≡ wholeFrame p text
+      → f .pdu ≡ frameBits p text
       → e .number ≡ 0
       → textsIn (e .records) ≡ unlessLast (lastHeard (f .ssi) before) (nsOf p) (shown p text)
   pub only : (f : Frame) → parsed (e .call) ≡ accepted (frame f) → e .number ≡ 0 → Framed (f .pdu)

@@ -8,11 +8,12 @@ use borrow.Author.Tests.{eqb-true}
 use lib.Dec.{eqb}
 use lib.ListN.{length}
 use Rattle.lists.specs.Lists.{keep, among, All}
+use Rattle.lists.proofs.Lists.{all-back}
 use Rattle.lists.proofs.Choices.{by-test, if-true, if-false, clash}
 use Rattle.bits.proofs.Laws.{length-bits}
 use Rattle.questions.specs.Outcome.{accepted}
 use Rattle.llc_pdus.specs.Headers.{nsOf}
-use Rattle.llc_pdus.specs.Received.{wholeFrame}
+use Rattle.llc_pdus.specs.Frames.{frameBits}
 use Rattle.llc_pdus.specs.declared.Pdu.{Pdu}
 use Rattle.llc_rule.specs.Limits.{storeBytes}
 use Rattle.llc_rule.specs.Calls.{Request, Frame, frame, parsed}
@@ -26,6 +27,8 @@ use Rattle.llc_rule.specs.Claim.{whoseAfter, Claims}
 use Rattle.llc_rule.specs.Sound.{ofAddress}
 use Rattle.llc_rule.specs.Repeats.{lastHeard}
 use Rattle.llc_rule.specs.Texts.{textsIn, shown as shownOf, unlessLast, Framed, TextGoesUp}
+use Rattle.llc_rule.specs.Records.{Record}
+use Rattle.llc_rule.specs.ReadBack.{requestsAfter, ReadBack, AllReadBack}
 use Rattle.llc_rule.specs.Sendings.{requestSpelled, sendings, AtMostFour, EachAtMostFour}
 use Rattle.llc_rule.proofs.Paths.{not-one}
 use Rattle.llc_rule.proofs.Repeats.{StopsAfter, stops-run, repeats-stop}
@@ -37,7 +40,7 @@ use Rattle.llc_runs.specs.Runs.{Lent, Station, begin, left, exchange, ru
 use Rattle.llc_runs.specs.Heard.{lentEnough, fitting, putTo}
 use Rattle.llc_runs.specs.Outputs.{ReadOff}
 use Rattle.llc_runs.specs.Claim.{linkAt, receiptsAfter, messagesAfter, InRange, Claim}
-use Rattle.llc_runs.proofs.Ones.{history-heard, unhindered-heard, four-heard, each-heard, text-one, text-same, stops-one, stops-same}
+use Rattle.llc_runs.proofs.Ones.{history-heard, unhindered-heard, four-heard, read-back-heard, each-heard, text-one, text-same, stops-one, stops-same}
 use Rattle.llc_runs.proofs.Runs.{silent, run-split, Asked, asks, asks-not, fitting-append, fitting-yes, fitting-no, follows, wrong-is, stuck, begin-right, begin-wrong, as-step}
 use Rattle.llc_runs.proofs.Outputs.{shown, readable, only, lines}
 
@@ -289,6 +292,10 @@ runs store =
           repeats-stop (run (begin store) cs)
           (each-heard StopsAfter stops-one stops-same (run (begin store) cs)
           (λ before e later split. stops-run (putTo store cs) before e later (sym (as-step store cs .heard) ∙ split)));
+      readBack =
+          λ cs.
+          read-back-heard (run (begin store) cs) (silent (begin store) cs)
+          (subst AllReadBack (sym (as-step store cs .heard)) (claims .readBack (putTo store cs)));
       four =
           λ cs.
           four-heard (run (begin store) cs) (silent (begin store) cs)
@@ -325,7 +332,7 @@ module _ (store : List ℕ) (before : List Lent) (c : Lent) (f : Frame) where
   pub text-later :
       (p : Pdu) (text : List ℕ)
       → parsed (c .call) ≡ accepted (frame f)
-      → f .pdu ≡ wholeFrame p text
+      → f .pdu ≡ frameBits p text
       → exchange (after (begin store) before) c .number ≡ 0
       → textsIn (exchange (after (begin store) before) c .records)
       ≡ unlessLast (lastHeard (f .ssi) (run (begin store) before)) (nsOf p) (shownOf p text)
@@ -335,7 +342,7 @@ module _ (store : List ℕ) (before : List Lent) (c : Lent) (f : Frame) where
   pub read-later :
       (p : Pdu) (text : List ℕ)
       → parsed (c .call) ≡ accepted (frame f)
-      → f .pdu ≡ wholeFrame p text
+      → f .pdu ≡ frameBits p text
       → among (exchange (after (begin store) before) c .number) (9 ∷ 10 ∷ 11 ∷ 12 ∷ []) ≡ false
   unfolding exchange
   read-later p text e is = text-at store before c .read f p text e is
@@ -346,6 +353,17 @@ module _ (store : List ℕ) (before : List Lent) (c : Lent) (f : Frame) where
       → Framed (f .pdu)
   unfolding exchange
   framed-later e z = text-at store before c .only f e z
+
+-- What is handed down is read back: of one record of a call.
+module _
+    (store : List ℕ) (cs : List Lent) (before : List Exchange) (e : Exchange) (later : List Exchange) (front rest : List Record) (r : Record)
+    (split : run (begin store) cs ≡ before ++ (e ∷ later))
+    (there : e .records ≡ front ++ (r ∷ rest))
+  where
+    pub read-at : ReadBack (requestsAfter before) r
+    read-at =
+        let all = subst (All (ReadBack (requestsAfter before))) there (runs store .readBack cs .each before e later split) in
+        all-back (ReadBack (requestsAfter before)) front (r ∷ rest) all .0
 
 pub claim : Claim
 claim =

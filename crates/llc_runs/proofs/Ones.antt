@@ -8,15 +8,16 @@ use mathlib.Core.Option.{Option, none}
 use borrow.Author.Tests.{eqb-true, not-false}
 use lib.Dec.{eqb}
 use Rattle.lists.specs.Lists.{keep, any, all, among, All}
-use Rattle.lists.proofs.Lists.{keep-yes, keep-no, keep-append, all-back}
+use Rattle.lists.proofs.Lists.{keep-yes, keep-no, keep-append, all-back, all-unit}
 use Rattle.lists.proofs.Choices.{by-test, if-false}
 use Rattle.llc_pdus.specs.Headers.{nsOf}
 use Rattle.llc_rule.specs.Calls.{parsed}
 use Rattle.llc_rule.specs.Records.{Record, ssiOf, Sent}
 use Rattle.llc_rule.specs.Runs.{Exchange}
-use Rattle.llc_rule.specs.Past.{stays, about, Holders, heldAfter, doneTo, holders, whose, concerns, leftOut, inPast, History, andThen, history}
+use Rattle.llc_rule.specs.Past.{nobody, Holding, stays, about, Holders, heldAfter, doneTo, holders, whose, concerns, leftOut, inPast, History, andThen, history}
 use Rattle.llc_rule.specs.Seen.{hindrances, unhindered}
 use Rattle.llc_rule.specs.Sendings.{ends, handed, sendings, AtMostFour, EachAtMostFour}
+use Rattle.llc_rule.specs.ReadBack.{Requests, requestsThen, requestsFrom, requestsAfter, ReadBack, AllReadBack}
 use Rattle.llc_rule.specs.Repeats.{Hearing, hears, neither, hearing, heardIn, lastNext, lastFrom, lastHeard}
 use Rattle.llc_rule.specs.Texts.{shown, unlessLast, TextGoesUp}
 use Rattle.llc_rule.proofs.Repeats.{Stops, StopsAfter}
@@ -26,23 +27,23 @@ use Rattle.llc_runs.specs.Heard.{wasHeard, heardOf}
 abbrev pub Silent : Exchange → Type 0
 Silent e = e .number ≡ 1 → e .records ≡ []
 
--- What a reading of exchanges that passes over those with number 1 gives of all, it gives of the others.
+-- What a reading of exchanges that passes over those with number 1 gives of all, it gives of the others; with a Q of exchanges.
 read-heard :
-    {S X : Type 0} (f : S → List Exchange → X)
+    {S X : Type 0} (Q : Exchange → Type 0) (f : S → List Exchange → X)
     → ((s : S) (e : Exchange) (es ds : List Exchange) → ((t : S) → f t es ≡ f t ds) → f s (e ∷ es) ≡ f s (e ∷ ds))
-    → ((s : S) (e : Exchange) (es : List Exchange) → e .number ≡ 1 → e .records ≡ [] → f s (e ∷ es) ≡ f s es)
+    → ((s : S) (e : Exchange) (es : List Exchange) → e .number ≡ 1 → Q e → f s (e ∷ es) ≡ f s es)
     → (s : S) (es : List Exchange)
-    → All Silent es
+    → All Q es
     → f s es ≡ f s (heardOf es)
 unfolding keep
-read-heard f same over s [] q = refl
-read-heard f same over s (e ∷ es) q =
+read-heard Q f same over s [] q = refl
+read-heard Q f same over s (e ∷ es) q =
     by-test (wasHeard e)
     (λ w.
-    same s e es (heardOf es) (λ t. read-heard f same over t es (q .1)) ∙ ap (f s) (sym (keep-yes wasHeard e es w)))
+    same s e es (heardOf es) (λ t. read-heard Q f same over t es (q .1)) ∙ ap (f s) (sym (keep-yes wasHeard e es w)))
     (λ w.
     let n = eqb-true (e .number) 1 (not-false (eqb (e .number) 1) w) in
-    over s e es n (q .0 n) ∙ read-heard f same over s es (q .1) ∙ ap (f s) (sym (keep-no wasHeard e es w)))
+    over s e es n (q .0) ∙ read-heard Q f same over s es (q .1) ∙ ap (f s) (sym (keep-no wasHeard e es w)))
 
 -- One such call.
 done-one : (e : Exchange) → e .number ≡ 1 → doneTo e ≡ stays
@@ -80,16 +81,16 @@ none-heard e n = if-false (hearing (parsed (e .call))) neither (ap (λ (k : ℕ)
 pub history-heard : (k : History) (es : List Exchange) → All Silent es → history k es ≡ history k (heardOf es)
 unfolding history
 history-heard k es q =
-    read-heard history
+    read-heard Silent history
     (λ s e es ds r. r (andThen e s))
-    (λ s e es n g. ap (λ (x : History). history x es) (history-one s e n g))
+    (λ s e es n g. ap (λ (x : History). history x es) (history-one s e n (g n)))
     k es q
 
 pub unhindered-heard : (es : List Exchange) → All Silent es → unhindered es ≡ unhindered (heardOf es)
 unfolding unhindered all any
 unhindered-heard es q =
     let free : ℕ → Bool = λ (k : ℕ). not (among k hindrances) in
-    read-heard {S = Unit {0}} (λ u es. unhindered es)
+    read-heard {S = Unit {0}} Silent (λ u es. unhindered es)
     (λ s e es ds r. ap (λ (x : Bool). free (e .number) && x) (r tt))
     (λ s e es n g. ap (λ (k : ℕ). free k && unhindered es) n)
     tt es q
@@ -97,11 +98,11 @@ unhindered-heard es q =
 pub sendings-heard : (i : ℕ) (es : List Exchange) → All Silent es → sendings i es ≡ sendings i (heardOf es)
 unfolding sendings handed
 sendings-heard i es q =
-    read-heard sendings
+    read-heard Silent sendings
     (λ j e es ds r. ap (λ (x : List Sent). cond (ends j (doneTo e)) [] (handed j (e .records) ++ x)) (r j))
     (λ j e es n g.
     if-false [] (handed j (e .records) ++ sendings j es) (ap (ends j) (done-one e n))
-    ∙ ap (λ (rs : List Record). handed j rs ++ sendings j es) g)
+    ∙ ap (λ (rs : List Record). handed j rs ++ sendings j es) (g n))
     i es q
 
 -- And of what is handed down of each request.
@@ -121,23 +122,28 @@ four-heard es q f =
     }
 
 -- And of the last N(S) accepted from an address.
-last-heard : (a : ℕ) (last : Option Bool) (es : List Exchange) → lastFrom a last (heardOf es) ≡ lastFrom a last es
-unfolding lastFrom keep
-last-heard a last [] = refl
-last-heard a last (e ∷ es) =
-    by-test (wasHeard e)
-    (λ w. ap (lastFrom a last) (keep-yes wasHeard e es w) ∙ last-heard a (lastNext a last (heardIn e)) es)
-    (λ w.
-    let n = eqb-true (e .number) 1 (not-false (eqb (e .number) 1) w) in
-    ap (lastFrom a last) (keep-no wasHeard e es w)
-    ∙ last-heard a last es
-    ∙ ap (λ (h : Hearing). lastFrom a (lastNext a last h) es) (sym (none-heard e n)))
+last-heard : (a : ℕ) (es : List Exchange) → lastHeard a es ≡ lastHeard a (heardOf es)
+unfolding lastFrom
+last-heard a es =
+    read-heard (λ (e : Exchange). Unit {0}) (lastFrom a)
+    (λ last e es ds r. r (lastNext a last (heardIn e)))
+    (λ last e es n q. ap (λ (h : Hearing). lastFrom a (lastNext a last h) es) (none-heard e n))
+    none es (all-unit es)
 
--- What holds of each exchange by the last N(S) accepted before it, and of those with number 1 anyhow, holds of all.
+-- And of the requests that hold receipts.
+requests-heard : (es : List Exchange) → requestsAfter es ≡ requestsAfter (heardOf es)
+unfolding requestsFrom
+requests-heard es =
+    read-heard (λ (e : Exchange). Unit {0}) requestsFrom
+    (λ h e es ds r. r (requestsThen (doneTo e) h))
+    (λ h e es n q. ap (λ (x : Holding). requestsFrom (requestsThen x h) es) (done-one e n))
+    nobody es (all-unit es)
+
+-- What holds of each exchange by those before it that were heard, and of those with number 1 anyhow, holds of all.
 module _
     (P : List Exchange → Exchange → Type 0)
     (ones : (before : List Exchange) (e : Exchange) → e .number ≡ 1 → P before e)
-    (same : (before also : List Exchange) (e : Exchange) → ((a : ℕ) → lastHeard a before ≡ lastHeard a also) → P before e → P also e)
+    (same : (before : List Exchange) (e : Exchange) → P (heardOf before) e → P before e)
   where
     pub each-heard :
         (es : List Exchange)
@@ -149,7 +155,7 @@ module _
     each-heard es each before e later split =
         by-test (wasHeard e)
         (λ w.
-        same (heardOf before) before e (λ a. last-heard a none before)
+        same before e
         (each (heardOf before) e (heardOf later)
         (ap heardOf split
         ∙ keep-append wasHeard before (e ∷ later)
@@ -166,27 +172,38 @@ text-one before e n =
       only = λ f q z. absurd (omega arith);
     }
 
-pub text-same :
-    (before also : List Exchange) (e : Exchange)
-    → ((a : ℕ) → lastHeard a before ≡ lastHeard a also)
-    → TextGoesUp before e
-    → TextGoesUp also e
-text-same before also e last t =
+pub text-same : (before : List Exchange) (e : Exchange) → TextGoesUp (heardOf before) e → TextGoesUp before e
+text-same before e t =
     record {
       read = t .read;
       up =
           λ f p text q is z.
-          t .up f p text q is z ∙ ap (λ (x : Option Bool). unlessLast x (nsOf p) (shown p text)) (last (f .ssi));
+          t .up f p text q is z ∙ ap (λ (x : Option Bool). unlessLast x (nsOf p) (shown p text)) (sym (last-heard (f .ssi) before));
       only = t .only;
     }
 
 pub stops-one : (before : List Exchange) (e : Exchange) → e .number ≡ 1 → StopsAfter before e
 stops-one before e n a ns sdu h = let no : neither ≡ hears a ns sdu = sym (none-heard e n) ∙ h in let f : false ≡ true = cc in absurd (false≢true f)
 
-pub stops-same :
-    (before also : List Exchange) (e : Exchange)
-    → ((a : ℕ) → lastHeard a before ≡ lastHeard a also)
-    → StopsAfter before e
-    → StopsAfter also e
-stops-same before also e last t a ns sdu h =
-    subst (λ (x : Option Bool). Stops a x ns sdu (e .records)) (last a) (t a ns sdu h)
+pub stops-same : (before : List Exchange) (e : Exchange) → StopsAfter (heardOf before) e → StopsAfter before e
+stops-same before e t a ns sdu h =
+    subst (λ (x : Option Bool). Stops a x ns sdu (e .records)) (sym (last-heard a before)) (t a ns sdu h)
+
+-- What is read back of an exchange that gave no record, if it got number 1.
+abbrev pub ReadBackOf : List Exchange → Exchange → Type 0
+ReadBackOf before e = Silent e → All (ReadBack (requestsAfter before)) (e .records)
+
+read-one : (before : List Exchange) (e : Exchange) → e .number ≡ 1 → ReadBackOf before e
+read-one before e n q = subst (All (ReadBack (requestsAfter before))) (sym (q n)) tt
+
+read-same : (before : List Exchange) (e : Exchange) → ReadBackOf (heardOf before) e → ReadBackOf before e
+read-same before e r q = subst (λ (h : Requests). All (ReadBack h) (e .records)) (sym (requests-heard before)) (r q)
+
+pub read-back-heard : (es : List Exchange) → All Silent es → AllReadBack (heardOf es) → AllReadBack es
+read-back-heard es q r =
+    record {
+      each =
+          λ before e later split.
+          each-heard ReadBackOf read-one read-same es (λ before e later split s. r .each before e later split) before e later split
+          (all-back Silent before (e ∷ later) (subst (All Silent) split q) .0);
+    }

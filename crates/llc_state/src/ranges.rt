@@ -12,17 +12,18 @@ use crate::STORE_PLACES;
 use crate::ScheduledOutAck;
 use crate::State;
 use crate::TmaUnitdataReq;
+use fcs::FCS_BITS;
 use llc_pdus::N251_BL_MAX_TLSDU_LEN_BITS;
 
-// The fewest and the most bits of an acknowledged message's frame: a header of 5 or 6 bits, and the SDU.
+// The fewest and the most bits of an acknowledged message's frame: a header of 5 or 6 bits, the SDU and its check sequence.
 const SHORTEST_MESSAGE: usize = 5;
 
-const LONGEST_MESSAGE: usize = 6 + N251_BL_MAX_TLSDU_LEN_BITS;
+const LONGEST_MESSAGE: usize = 6 + N251_BL_MAX_TLSDU_LEN_BITS + FCS_BITS;
 
-// Those of an unacknowledged message's: a header of 4 or 5 bits, and the SDU.
+// Those of an unacknowledged message's: a header of 4 or 5 bits, the SDU and its check sequence.
 const SHORTEST_UDATA: usize = 4;
 
-const LONGEST_UDATA: usize = 5 + N251_BL_MAX_TLSDU_LEN_BITS;
+const LONGEST_UDATA: usize = 5 + N251_BL_MAX_TLSDU_LEN_BITS + FCS_BITS;
 
 // What is handed down of a message.
 fn sent_in_range(sent: TmaUnitdataReq) -> bool

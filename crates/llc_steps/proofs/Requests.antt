@@ -13,7 +13,8 @@ use Rattle.lists.proofs.Lists.{all-map}
 use Rattle.lists.proofs.Choices.{by-test}
 use Rattle.questions.specs.Outcome.{accepted}
 use Rattle.bits.specs.Bits.{splice}
-use Rattle.llc_pdus.specs.Writes.{longest, frameBits}
+use Rattle.llc_pdus.specs.Frames.{frameBits}
+use Rattle.llc_pdus.specs.Writes.{longest}
 use Rattle.llc_pdus.specs.declared.Pdu.{Pdu}
 use Rattle.llc_pdus.specs.declared.Pdu.the-variants.{BlUdata, BlAck}
 use Rattle.llc_pdus.proofs.Framing.{frame-short}

@@ -15,7 +15,8 @@ use Rattle.questions.proofs.Asked.{by-question}
 use Rattle.bits.specs.Bits.{splice}
 use Rattle.bits.proofs.Laws.{length-splice}
 use Rattle.llc_pdus.specs.Headers.{header, bdata, udata, ack, lengthOf}
-use Rattle.llc_pdus.specs.Writes.{longest, frameBits}
+use Rattle.llc_pdus.specs.Frames.{frameBits}
+use Rattle.llc_pdus.specs.Writes.{longest}
 use Rattle.llc_pdus.specs.declared.Pdu.{Pdu}
 use Rattle.llc_pdus.specs.declared.Pdu.the-variants.{BlUdata, BlAck}
 use Rattle.llc_pdus.proofs.Framing.{frame-least, frame-most, frame-short}

@@ -13,7 +13,7 @@ use Rattle.tx_receipt.specs.States.{is, final}
 use Rattle.tx_receipt.specs.Marks as Marks
 use Rattle.tx_receipt.specs.Marks.{allowed}
 use Rattle.tx_receipt.specs.declared.TxState.the-variants.{Pending}
-use Rattle.llc_pdus.specs.Writes.{frameBits}
+use Rattle.llc_pdus.specs.Frames.{frameBits}
 use Rattle.llc_pdus.specs.declared.Pdu.{Pdu}
 use Rattle.llc_pdus.specs.declared.Pdu.the-variants.{BlAdata, BlData, BlUdata, BlAck}
 use Rattle.llc_pdus.specs.Headers.{nsOf, nrOf}

@@ -21,6 +21,11 @@ impl Bits {
         }
     }
 
+    /// Others behind them.
+    pub fn extend(&mut self, others: &Bits) {
+        self.bits.extend(&others.bits);
+    }
+
     /// Bits of no meaning: random ones, or all the same.
     pub fn push_random(&mut self, count: usize, prng: &mut Prng) {
         let style = prng.below(8);

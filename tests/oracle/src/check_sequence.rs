@@ -4,10 +4,13 @@
 /// their number), result inverted.
 pub fn over(bits: &[u8], from: usize, to: usize) -> u32 {
     let len = to - from;
-    let mut rest = u32::MAX;
-    if (1..32).contains(&len) {
-        rest <<= 32 - len;
-    }
+    let start = if (1..32).contains(&len) { u32::MAX << (32 - len) } else { u32::MAX };
+    from_start(start, bits, from, to)
+}
+
+/// The same with a start.
+pub fn from_start(start: u32, bits: &[u8], from: usize, to: usize) -> u32 {
+    let mut rest = start;
     for at in from..to {
         let top = rest >> 31;
         rest <<= 1;

@@ -69,8 +69,14 @@ impl Comparison {
         let batch = Batch::of(&lines);
         let records = |expected: &Outcome| expected.text.lines().skip(1).map(|line| line.len() / 2).sum::<usize>();
         let most = batch.expected.iter().map(records).max().unwrap_or(0);
-        if self.compare("the largest tick ends", &batch) {
+        if !self.compare("the largest tick ends", &batch) {
+            return;
+        }
+        if most == largest::MOST {
             println!("ok: tick ends of up to {most} bytes, {} calls", lines.len());
+        } else {
+            println!("FAILED: the largest tick end has {most} bytes, not {}", largest::MOST);
+            self.failures += 1;
         }
     }
 

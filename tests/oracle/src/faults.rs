@@ -5,6 +5,7 @@ use crate::call::{Call, Frame};
 use crate::caught::caught;
 use crate::check_sequence::bit;
 use crate::header::{self, Header};
+use crate::misappend::{AGAIN, UNDUE, WAYS};
 use crate::oracle::{Oracle, Started};
 use crate::outcome::text;
 use crate::store::lines_of;
@@ -79,6 +80,14 @@ pub enum Fault {
     EmptiedDropped(u32),
     /// What is emptied goes up, after a BL-ACK.
     EmptiedKept,
+    /// The FCS that goes down with a PDU of a type is not what it has to be, in one of the `WAYS`.
+    Appended(u32, &'static str),
+    /// The same, in a message that is sent again, in one of the ways of `AGAIN`.
+    AppendedAgain(u32, &'static str),
+    /// A BL-UDATA of a request with a tag that asked for an FCS, and that steals or not, has it, or the flag, or both.
+    UdataAppended(u8, bool, &'static str),
+    /// A reply to an address whose last frame came with FCS has one, or the flag, or both.
+    ReplyAppended(&'static str),
     /// A byte of a field is written as 0 in records of a kind.
     ByteWritten(u8, u8, usize),
 }
@@ -89,6 +98,11 @@ pub const LAST: usize = usize::MAX;
 thread_local! {
     /// The fault that is put in.
     static FAULT: Cell<Option<Fault>> = const { Cell::new(None) };
+}
+
+/// The fault that is put in, if one is.
+pub fn put_in() -> Option<Fault> {
+    FAULT.get()
 }
 
 /// Is it put in?
@@ -272,6 +286,14 @@ pub fn all() -> Vec<Fault> {
     }
     all.push(Fault::EmptiedKept);
     all.extend((0..3).flat_map(|kind| [Fault::EmptyField(kind), Fault::EmptiedDropped(kind)]));
+    for kind in [0, 1, 3] {
+        all.extend(WAYS.map(|way| Fault::Appended(kind, way)));
+        all.extend(AGAIN.map(|way| Fault::AppendedAgain(kind, way)).into_iter().filter(|_| kind != 3));
+    }
+    for (tag, is_stealing) in [(0x24, false), (0x24, true), (0x25, false), (0x25, true)] {
+        all.extend(UNDUE.map(|way| Fault::UdataAppended(tag, is_stealing, way)));
+    }
+    all.extend(UNDUE.map(Fault::ReplyAppended));
     // The bytes that are not always 0, of each field of each kind of record.
     let fields: [(u8, &[(u8, usize, usize)]); 5] = [
         (1, &[(2, 0, 3), (3, 0, 1), (4, 0, 2), (6, 0, 4), (7, 0, 4), (9, 0, 1), (0xa, 0, 1), (0xb, 0, 1), (0xc, 0, 3)]),

@@ -1,6 +1,6 @@
 //! Runs that tell faults apart: every field of every call and record with a value that differs in every byte, each tag and each
-//! value next to the known ones, SDUs of each length at which trimming changes something, repeats, calls that fail two questions,
-//! and every row taken.
+//! value next to the known ones, SDUs of each length at which trimming or an FCS that goes down changes something, repeats, calls
+//! that fail two questions, and every row taken.
 use crate::bits::Bits;
 use crate::call::{Call, Frame, Request};
 use crate::hex_line::line_of;
@@ -126,6 +126,40 @@ fn trimmed() -> Vec<Call> {
         let addresses = (0..).map(|at| pdu + 0x08 * at);
         calls.extend(addresses.zip(lengths).map(|(address, length)| Call::Frame(frame_with(address, 1, pdu, 1, length))));
     }
+    calls
+}
+
+/// What goes down with the FCS flag, in each PDU: nothing, up to a byte and a bit, around 32 bits, the longest SDU. What is
+/// acknowledged came with FCS and without, and so did what gets a reply. The messages are sent again. Behind them what asks for an
+/// FCS and goes out in a BL-UDATA, for a group or stealing.
+fn announced() -> Vec<Call> {
+    let mut calls = vec![Call::Start { carrier: MAIN_CARRIER, t251: 1 }, time(1, 1, 1, 1)];
+    let with_fcs = |address, kind, flags, receipt, length| {
+        let mut bits = Bits::default();
+        put_bits(&mut bits, length);
+        let (bit_count, bits) = (length as u16, bits.bytes());
+        Request { kind, bit_count, bits, block: Vec::new(), ..request(address, kind, flags | 2, receipt) }
+    };
+    let lengths = [0, 1, 7, 8, 9, 31, 32, 33, 2595];
+    let all = || (0..).zip([0, 1, 3].into_iter().flat_map(|pdu| lengths.map(|length| (pdu, length))));
+    for (at, (pdu, length)) in all() {
+        if pdu != 1 {
+            let came = Frame { block: Vec::new(), ..frame_with(at.into(), 1, 1, at % 2, 3) };
+            calls.push(Call::Frame(came));
+        }
+        calls.push(Call::Data(with_fcs(at.into(), 1, (pdu == 3) as u8, at, length)));
+    }
+    calls.extend((0..4).map(|at| Call::Frame(Frame { block: Vec::new(), ..frame_with(at, 1, 1, at as u8 % 2, 3) })));
+    calls.push(Call::TickEnd);
+    calls.extend(all().map(|(receipt, _)| Call::Report { receipt, value: 1 }));
+    calls.extend([Call::TickEnd, time(1, 1, 1, 2), Call::TickEnd]);
+    for (receipt, (kind, steals)) in (0x60..).zip([(1, 1), (2, 0), (2, 1)]) {
+        calls.push(Call::Data(with_fcs(0x20, kind, steals, receipt, 9)));
+    }
+    for (receipt, (kind, steals)) in (0x64..).zip([(1, 0), (1, 1), (2, 0), (2, 1)]) {
+        calls.push(Call::Unitdata(with_fcs(0x20, kind, steals, receipt, 9)));
+    }
+    calls.push(Call::TickEnd);
     calls
 }
 
@@ -284,7 +318,7 @@ pub fn lines() -> Vec<Vec<u8>> {
         Call::Release { receipt: 1 },
     ];
     lines.extend(known.into_iter().map(|call| tagged(call.bytes()[0] | 0x80, call)));
-    let runs = [trimmed(), repeats(), ranges(), orders(), rows()];
+    let runs = [trimmed(), announced(), repeats(), ranges(), orders(), rows()];
     lines.extend(runs.iter().flatten().map(|call| line_of(&call.bytes())));
     lines
 }

@@ -7,8 +7,10 @@ use tetra_core::TdmaTime;
 
 /// The carrier.
 const CARRIER: u16 = 0x05fa;
+/// The bytes of the largest tick end: BL-ADATA and BL-ACK with FCS, and replies that steal.
+pub const MOST: usize = MESSAGES * 454 + UNACKNOWLEDGED * 453 + DUE * 54;
 
-/// A request with everything that makes its record long.
+/// A request with everything that makes its record long: mask, block, the longest SDU and the FCS flag.
 fn request(ssi: u32, flags: u8, receipt: u8) -> Call {
     let mut bits = vec![receipt ^ 0xa5; 325];
     bits[324] &= 0xe0;

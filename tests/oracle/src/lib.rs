@@ -1,4 +1,5 @@
 //! The Rust's link behind document 01's questions, calls for it, and comparisons with the proved engine.
+pub mod append;
 pub mod batch;
 pub mod bits;
 pub mod call;
@@ -16,6 +17,7 @@ pub mod hex_line;
 pub mod largest;
 pub mod link;
 pub mod message;
+pub mod misappend;
 pub mod oracle;
 pub mod outcome;
 pub mod prng;

@@ -21,11 +21,17 @@ fn buffer(bits: &[u8], count: u16) -> BitBuffer {
     buffer
 }
 
-/// A block, and whether a mask came with it.
-fn pass_on(block: &[u8], has_mask: bool) -> PassOn {
+/// A block.
+fn pass_on(block: &[u8]) -> PassOn {
     let mut bytes = [0; 64];
     bytes[..block.len()].copy_from_slice(block);
-    PassOn { len: block.len() as u8, bytes, has_mask }
+    PassOn { len: block.len() as u8, bytes, has_mask: false, fcs_asked_by: None }
+}
+
+/// The block of a request with a tag, and which flags came with it.
+fn pass_on_of(request: &Request, tag: u8) -> PassOn {
+    let (has_mask, asks_fcs) = (request.flags & 4 != 0, request.flags & 2 != 0);
+    PassOn { has_mask, fcs_asked_by: asks_fcs.then_some(tag), ..pass_on(&request.block) }
 }
 
 /// The channel that a request asks for: its carrier and its mask, if it has one of them.
@@ -56,7 +62,7 @@ pub fn data(request: &Request, reporter: TxReporter) -> SapMsg {
             fcs_flag: request.flags & 2 != 0,
             air_interface_encryption: None,
             stealing_repeats_flag: None,
-            data_class_info: Some(pass_on(&request.block, request.flags & 4 != 0)),
+            data_class_info: Some(pass_on_of(request, 0x24)),
             req_handle: request.handle,
             chan_alloc: channel(request),
             tx_reporter: Some(reporter),
@@ -79,7 +85,7 @@ pub fn unitdata(request: &Request, reporter: TxReporter) -> SapMsg {
             subscriber_class: 0,
             fcs_flag: request.flags & 2 != 0,
             air_interface_encryption: None,
-            data_class_info: Some(pass_on(&request.block, request.flags & 4 != 0)),
+            data_class_info: Some(pass_on_of(request, 0x25)),
             req_handle: request.handle,
             chan_alloc: channel(request),
             tx_reporter: Some(reporter),
@@ -105,7 +111,7 @@ pub fn frame(frame: &Frame) -> SapMsg {
             air_interface_encryption: 0,
             chan_change_response_req: false,
             chan_change_handle: None,
-            chan_info: Some(pass_on(&frame.block, false)),
+            chan_info: Some(pass_on(&frame.block)),
         }),
     }
 }

@@ -1,5 +1,6 @@
 //! The oracle: what document 01's questions let through goes to the Rust's own link, and what that gives comes back as records,
-//! trimmed where it goes up with FCS, and stopped where it repeats.
+//! trimmed where it goes up with FCS, stopped where it repeats, and with the FCS behind it where it goes down with the FCS flag.
+use crate::append::append;
 use crate::call::Call;
 use crate::caught::caught;
 use crate::coverage::Coverage;
@@ -210,6 +211,8 @@ impl Oracle {
             Call::Frame(frame) => trim(given, header::kind(&frame.bits), &mut self.coverage)?,
             _ => Some(given),
         };
+        let started = self.link.as_ref().unwrap();
+        let left = left.map(|message| append(message, started, &mut self.coverage)).transpose()?;
         let receipt_of = |reporter: &TxReporter| {
             let is_it = |held: &Option<TxReporter>| held.as_ref().is_some_and(|held| held.is_same(reporter));
             self.receipts.iter().position(is_it).map(|at| at as u8)

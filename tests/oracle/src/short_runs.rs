@@ -247,6 +247,41 @@ fn with_fcs() -> Alphabet {
     }
 }
 
+/// Requests that ask for an FCS: which frames go out with one, and with it again.
+fn announced() -> Alphabet {
+    let tick = Call::TickEnd;
+    let asking = |kind, flags: u8, receipt, bits: &str| {
+        let mut sdu = Bits::default();
+        bits.bytes().for_each(|bit| sdu.push(bit == b'1'));
+        Request { bit_count: sdu.len() as u16, bits: sdu.bytes(), ..request(A, kind, flags | 2, MAIN, receipt) }
+    };
+    let empty = Call::Data(asking(1, 0, 1, ""));
+    let done = vec![empty.clone(), tick.clone(), sent(1), tick.clone()];
+    Alphabet {
+        name: "frames sent with FCS",
+        start: Call::Start { carrier: MAIN, t251: 2 },
+        beginnings: vec![vec![], vec![frame(A, 1, MAIN, "00011")], all(&[&done, &[checked(A, "01010", "1")]])],
+        letters: vec![
+            empty,
+            Call::Data(asking(1, 0, 2, "1001101")),
+            Call::Data(asking(1, 1, 3, "")),
+            Call::Data(asking(1, 1, 4, "110100110")),
+            Call::Data(asking(2, 0, 5, "01")),
+            Call::Unitdata(asking(1, 0, 6, "0")),
+            data(A, 7),
+            frame(A, 1, MAIN, "00010"),
+            checked(A, "010001", "11"),
+            sent(1),
+            time(2),
+            tick.clone(),
+        ],
+        tail: all(&[
+            &[tick.clone(), sent(1), sent(2), tick.clone(), time(9), tick.clone(), ack(A, 0), sent(1), sent(2)],
+            &[time(12), tick.clone(), ack(A, 1), tick],
+        ]),
+    }
+}
+
 /// Repeats from an address, and another address beside it.
 fn repeats() -> Alphabet {
     let tick = Call::TickEnd;
@@ -292,7 +327,7 @@ fn repeats() -> Alphabet {
 
 /// All alphabets.
 pub fn alphabets() -> Vec<Alphabet> {
-    vec![one_address(), three_addresses(), due(), with_fcs(), repeats()]
+    vec![one_address(), three_addresses(), due(), with_fcs(), announced(), repeats()]
 }
 
 impl Alphabet {

@@ -1,5 +1,5 @@
 //! Frames that came in, in words, with whatever values they have.
-use crate::pdus::{self, PduReceived};
+use crate::pdus::{self, Pdu};
 use crate::reader::Reader;
 use crate::words::{Address, Block, Carrier, Ids};
 use std::fmt::{Display, Formatter, Result};
@@ -49,6 +49,6 @@ impl Display for Frame<'_> {
             block,
             pdu,
         } = self;
-        write!(f, "{address}, {carrier}, {ids}, {}, {}", Block(block), PduReceived(*pdu))
+        write!(f, "{address}, {carrier}, {ids}, {}, {}", Block(block), Pdu(*pdu))
     }
 }

@@ -1,4 +1,4 @@
-//! PDUs taken apart: a type of four bits, N(R) and N(S) where it has them, and what is behind them.
+//! PDUs taken apart: a type of four bits, N(R) and N(S) where it has them, the SDU, and its check bits where the FCS flag is set.
 use crate::words::{Nr, Ns, Packed, fcs_flag};
 use std::fmt::{Display, Formatter, Result};
 use wipturay::Bits;
@@ -6,21 +6,26 @@ use wipturay::Bits;
 /// How many check bits there are.
 const CHECK_BITS: usize = 32;
 
-/// The bits of a frame to be sent, and what they are read as: with the FCS flag too, the SDU is all that is behind the header.
-pub struct PduToSend<'a>(pub Bits<'a>);
+/// The bits of a frame, to be sent or come in, and what they are read as: with the FCS flag the last 32 are check bits.
+pub struct Pdu<'a>(pub Bits<'a>);
 
-impl Display for PduToSend<'_> {
+impl Display for Pdu<'_> {
     fn fmt(&self, f: &mut Formatter<'_>) -> Result {
-        put_pdu(f, self.0, |f, _, behind| put_sdu(f, behind))
-    }
-}
-
-/// The bits of a frame that came in, and what they are read as: with the FCS flag the last 32 are check bits.
-pub struct PduReceived<'a>(pub Bits<'a>);
-
-impl Display for PduReceived<'_> {
-    fn fmt(&self, f: &mut Formatter<'_>) -> Result {
-        put_pdu(f, self.0, put_received)
+        write!(f, "{}: ", Packed::new(self.0.iter()))?;
+        let mut bits = self.0.iter();
+        let Header { name, fcs, nr, ns } = match take_header(&mut bits) {
+            Ok(header) => header,
+            Err(why) => return f.write_str(why),
+        };
+        f.write_str(name)?;
+        if let Some(nr) = nr {
+            write!(f, ", {}", Nr(nr))?;
+        }
+        if let Some(ns) = ns {
+            write!(f, ", {}", Ns(ns))?;
+        }
+        write!(f, ", {}", fcs_flag(fcs))?;
+        put_behind(f, fcs, &bits.collect::<Vec<_>>())
     }
 }
 
@@ -56,32 +61,13 @@ fn take_header(bits: &mut impl Iterator<Item = bool>) -> std::result::Result<Hea
     Ok(Header { name, fcs, nr, ns })
 }
 
-/// Tells the bits of a frame and its header, and by `put_behind` what is behind it, with the FCS flag.
-fn put_pdu(f: &mut Formatter<'_>, pdu: Bits<'_>, put_behind: impl FnOnce(&mut Formatter<'_>, bool, &[bool]) -> Result) -> Result {
-    write!(f, "{}: ", Packed::new(pdu.iter()))?;
-    let mut bits = pdu.iter();
-    let Header { name, fcs, nr, ns } = match take_header(&mut bits) {
-        Ok(header) => header,
-        Err(why) => return f.write_str(why),
-    };
-    f.write_str(name)?;
-    if let Some(nr) = nr {
-        write!(f, ", {}", Nr(nr))?;
-    }
-    if let Some(ns) = ns {
-        write!(f, ", {}", Ns(ns))?;
-    }
-    write!(f, ", {}", fcs_flag(fcs))?;
-    put_behind(f, fcs, &bits.collect::<Vec<_>>())
-}
-
 /// An SDU.
 fn put_sdu(f: &mut Formatter<'_>, sdu: &[bool]) -> Result {
     write!(f, ", SDU of {}", packed(sdu))
 }
 
-/// An SDU, and with the FCS flag its check bits, if there are enough for these.
-fn put_received(f: &mut Formatter<'_>, fcs: bool, behind: &[bool]) -> Result {
+/// What is behind a header: an SDU, and with the FCS flag its check bits, if there are enough for these.
+fn put_behind(f: &mut Formatter<'_>, fcs: bool, behind: &[bool]) -> Result {
     if !fcs {
         return put_sdu(f, behind);
     }
@@ -101,18 +87,19 @@ fn packed(bits: &[bool]) -> Packed {
 
 #[cfg(test)]
 mod tests {
-    use super::{PduReceived, PduToSend};
+    use super::Pdu;
     use wipturay::Bits;
 
-    /// What is told of a frame to be sent, and of one that came in.
-    fn told(bytes: &[u8], len: usize) -> [String; 2] {
-        let bits = Bits::new(bytes, len).unwrap();
-        [PduToSend(bits).to_string(), PduReceived(bits).to_string()]
+    /// Each frame must be told so.
+    fn told(cases: &[(&[u8], usize, &str)]) {
+        for &(bytes, len, expected) in cases {
+            assert_eq!(Pdu(Bits::new(bytes, len).unwrap()).to_string(), expected);
+        }
     }
 
     #[test]
     fn each_pdu_has_its_name_and_its_bits() {
-        let cases: [(&[u8], usize, &str); 6] = [
+        told(&[
             (
                 &[0b0000_1001],
                 8,
@@ -127,42 +114,41 @@ mod tests {
             (&[0b1111_1111], 8, "8 bits [ff]: no basic link PDU, its type is not 0 to 7"),
             (&[0b0000_0000], 5, "5 bits [00]: no PDU, its header is cut"),
             (&[0b1110_0000], 3, "3 bits [e0]: no PDU, under four bits"),
-        ];
-        for (bytes, len, expected) in cases {
-            assert_eq!(told(bytes, len), [expected; 2]);
-        }
+        ]);
     }
 
     #[test]
-    fn with_the_fcs_flag_a_frame_that_came_in_ends_with_check_bits() {
-        let cases: [(&[u8], usize, &str, &str); 4] = [
+    fn with_the_fcs_flag_it_ends_with_check_bits() {
+        told(&[
             (
                 &[0b0101_1000],
                 5,
-                "5 bits [58]: BL-DATA, N(S) 1, FCS flag, SDU of 0 bits []",
                 "5 bits [58]: BL-DATA, N(S) 1, FCS flag, 0 bits [], too few for check bits",
             ),
             (
                 &[0b0111_0111, 0xff, 0xff, 0xff, 0xf0],
                 36,
-                "36 bits [77fffffff0]: BL-ACK, N(R) 0, FCS flag, SDU of 31 bits [fffffffe]",
                 "36 bits [77fffffff0]: BL-ACK, N(R) 0, FCS flag, 31 bits [fffffffe], too few for check bits",
             ),
             (
                 &[0b0100_1000, 0, 0, 0, 0b1000],
                 38,
-                "38 bits [4800000008]: BL-ADATA, N(R) 1, N(S) 0, FCS flag, SDU of 32 bits [00000002]",
                 "38 bits [4800000008]: BL-ADATA, N(R) 1, N(S) 0, FCS flag, SDU of 0 bits [], check bits [00000002]",
             ),
             (
                 &[0b0110_1111, 0xff, 0xff, 0xff, 0xf8],
                 37,
-                "37 bits [6ffffffff8]: BL-UDATA, FCS flag, SDU of 33 bits [ffffffff80]",
                 "37 bits [6ffffffff8]: BL-UDATA, FCS flag, SDU of 1 bits [80], check bits [ffffffff]",
             ),
-        ];
-        for (bytes, len, sent, received) in cases {
-            assert_eq!(told(bytes, len), [sent, received]);
-        }
+        ]);
+    }
+
+    #[test]
+    fn without_the_fcs_flag_all_behind_the_header_is_the_sdu() {
+        told(&[(
+            &[0b0010_1111, 0xff, 0xff, 0xff, 0xf8],
+            37,
+            "37 bits [2ffffffff8]: BL-UDATA, no FCS flag, SDU of 33 bits [ffffffff80]",
+        )]);
     }
 }

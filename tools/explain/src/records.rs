@@ -1,5 +1,5 @@
 //! The records of a call in words, a line for each.
-use crate::pdus::PduToSend;
+use crate::pdus::Pdu;
 use crate::words::{Block, Carrier, Hex, Ids, Mask, Packed, Ssi, Whose, fcs_flag, stealing};
 use std::fmt::{Display, Formatter, Result};
 use wipturay::{Bits, Kind, Record, Records};
@@ -33,7 +33,7 @@ fn kind_words(kind: Kind) -> (&'static str, fn(&mut Formatter<'_>, Bits<'_>) -> 
 
 /// The bits of a frame to be sent.
 fn put_pdu(f: &mut Formatter<'_>, bits: Bits<'_>) -> Result {
-    write!(f, ", {}", PduToSend(bits))
+    write!(f, ", {}", Pdu(bits))
 }
 
 /// The bits that go up.

@@ -11,6 +11,7 @@ use Rattle.llc_rule.proofs.Runs.Ranges as Ranges
 use Rattle.llc_rule.proofs.Runs.Checks as Checks
 use Rattle.llc_rule.proofs.Runs.CheckBits as CheckBits
 use Rattle.llc_rule.proofs.Runs.Repeats as Repeats
+use Rattle.llc_rule.proofs.Runs.Announced as Announced
 use Rattle.llc_rule.proofs.Instance as Instance
 
 returns : tie.Need-returns
@@ -83,6 +84,9 @@ returns c = record {
   repeats-interleaved = Repeats.interleaved-agrees;
   repeats-send-side = Repeats.send-side-agrees;
   repeats-rows = Repeats.rows-of-frames-agrees;
+  announced-kinds = Announced.kinds-agrees;
+  announced-unitdata = Announced.unitdata-agrees;
+  announced-resent = Announced.resent-agrees;
   instance-agrees = Instance.instance-agrees;
   turned-agrees = Instance.turned-agrees;
 }

@@ -1,6 +1,7 @@
 use Rattle.claims.proofs.pdus.Statement.{statement}
 use Rattle.claims.proofs.pdus.Tie as tie
 use Rattle.llc_pdus.proofs.Laws as Laws
+use Rattle.llc_pdus.proofs.Framing as Framing
 use Rattle.llc_pdus.proofs.Holding as Holding
 use Rattle.llc_pdus.proofs.RoundTrip as RoundTrip
 use Rattle.llc_pdus.proofs.CheckBits as CheckBits
@@ -18,6 +19,7 @@ returns c = record {
   reads-back = RoundTrip.reads-back;
   sdu-back = RoundTrip.sdu-back;
   received-back = CheckBits.received-back;
+  length-frame = Framing.length-frame;
   frame-received = CheckBits.frame-received;
   received-frame = CheckBits.received-frame;
   held-sdu = HandedBack.held-sdu;

@@ -1,9 +1,18 @@
+use mathlib.Core.List.{List}
+use Rattle.llc_rule.specs.Records.{acknowledged, reply, unacknowledged, Sent}
+use Rattle.llc_rule.specs.ReadBack.{requestsAfter, Carries}
+use Rattle.llc_rule.specs.Runs.{Exchange}
+use Rattle.claims.specs.Runs.{Read}
 use Rattle.claims.proofs.runs.Statement.{statement}
 use Rattle.claims.proofs.runs.Tie as tie
 use Rattle.llc.proofs.Determined as Determined
 use Rattle.llc_runs.proofs.Claim as Claim
 use Rattle.llc_runs.proofs.Instance as Instance
 use Rattle.llc_runs.proofs.Applied as Applied
+
+-- What a record carries, taken apart.
+read : (before : List Exchange) (s : Sent) → Carries (requestsAfter before) s → Read before s
+read before s k = (k .request, (k .holds, (k .reads .pdu, (k .reads .flag, (k .reads .short, k .reads .read)))))
 
 returns : tie.Need-returns
 returns c = record {
@@ -20,6 +29,9 @@ returns c = record {
   repeats-same = λ store cs. Claim.claim .runs store .repeats cs .same;
   repeats-other = λ store cs. Claim.claim .runs store .repeats cs .other;
   repeats-first = λ store cs. Claim.claim .runs store .repeats cs .first;
+  read-back = λ store cs before e later front rest s split among. read before s (Claim.read-at store cs before e later front rest (acknowledged s) split among);
+  read-back-too = λ store cs before e later front rest s split among. read before s (Claim.read-at store cs before e later front rest (unacknowledged s) split among);
+  reply-back = λ store cs before e later front rest a split among. let k = Claim.read-at store cs before e later front rest (reply a) split among in (k .nr, k .read);
   one = Determined.one-answer;
   unhindered-lents = Instance.unhindered-lents;
   sees-lents = Instance.sees-lents;

@@ -5,7 +5,7 @@ use crate::exports::*;
 use crate::prng::Prng;
 use crate::report::Report;
 use tetra_core::BitBuffer;
-use tetra_entities::llc::components::fcs::check_fcs;
+use tetra_entities::llc::components::fcs::{check_fcs, compute_fcs};
 use tetra_pdus::llc::enums::llc_pdu_type::LlcPduType;
 use tetra_pdus::llc::pdus::{bl_ack::BlAck, bl_adata::BlAdata, bl_data::BlData, bl_udata::BlUdata};
 
@@ -13,12 +13,16 @@ const WANTED: &[(&str, &[&str])] = &[
     ("from_bitbuf", &["BL-ADATA", "BL-DATA", "BL-UDATA", "BL-ACK", "9", "10", "11", "12", "12, under 32 bits", "5"]),
     ("from_bitbuf", &TRIMMED),
     ("from_bitbuf", &EMPTIED),
-    ("to_bitbuf", &["BL-ADATA", "BL-DATA", "BL-UDATA", "BL-ACK", "5", "5, a long SDU", "8"]),
+    ("to_bitbuf", &["BL-ADATA", "BL-DATA", "BL-UDATA", "BL-ACK", "5", "5, a long SDU", "8", "8, by the FCS alone"]),
+    ("to_bitbuf", &APPENDED),
+    ("to_bitbuf", &ZEROS),
     ("try_from and into_raw", &["a type", "5"]),
 ];
 const NAMES: [&str; 4] = ["BL-ADATA", "BL-DATA", "BL-UDATA", "BL-ACK"];
 const TRIMMED: [&str; 4] = ["BL-ADATA, trimmed", "BL-DATA, trimmed", "BL-UDATA, trimmed", "BL-ACK, trimmed"];
 const EMPTIED: [&str; 4] = ["BL-ADATA, emptied", "BL-DATA, emptied", "BL-UDATA, emptied", "BL-ACK, emptied"];
+const APPENDED: [&str; 4] = ["BL-ADATA, FCS appended", "BL-DATA, FCS appended", "BL-UDATA, FCS appended", "BL-ACK, FCS appended"];
+const ZEROS: [&str; 4] = ["BL-ADATA, 32 zeros", "BL-DATA, 32 zeros", "BL-UDATA, 32 zeros", "BL-ACK, 32 zeros"];
 /// How many bits the headers have.
 const HEADERS: [usize; 4] = [6, 5, 4, 5];
 /// The longest SDU of a frame that goes out.
@@ -104,13 +108,22 @@ fn read_checked(kind: usize, sdu: usize, prng: &mut Prng, report: &mut Report) {
     }
 }
 
-/// What the Rust writes: the header and the SDU into the lent bytes. Nothing, if it panics.
-fn rust_write(pdu: (u8, bool, bool, bool), out: &[u8], sdu: &[u8], from: usize, len: usize) -> Option<(u64, Vec<u8>)> {
+/// What the Rust writes: the header and the SDU into the lent bytes. "A flag without a check sequence": the Rust's link leaves out
+/// what its flag announces, and here the Rust's FCS of the SDU is written behind it, if it is asked for. Nothing, if it panics.
+fn rust_write(
+    pdu: (u8, bool, bool, bool),
+    out: &[u8],
+    sdu: &[u8],
+    from: usize,
+    len: usize,
+    appends: bool,
+) -> Option<(u64, Vec<u8>)> {
     let (kind, has_fcs, nr, ns) = pdu;
     let (nr, ns) = (nr as u8, ns as u8);
     caught(|| {
         let mut source = BitBuffer::from_bytes(sdu);
-        source.set_raw_end(from.checked_add(len).unwrap());
+        let end = from.checked_add(len).unwrap();
+        source.set_raw_end(end);
         source.set_raw_pos(from);
         let mut buffer = BitBuffer::from_bytes(out);
         match kind {
@@ -120,6 +133,9 @@ fn rust_write(pdu: (u8, bool, bool, bool), out: &[u8], sdu: &[u8], from: usize, 
             _ => BlAck { has_fcs, nr }.to_bitbuf(&mut buffer),
         }
         buffer.copy_bits(&mut source, len);
+        if appends {
+            buffer.write_bits(compute_fcs(&source, from, end).into(), 32);
+        }
         (buffer.get_raw_pos() as u64, buffer.into_bytes())
     })
 }
@@ -130,13 +146,21 @@ fn write(pdu: (u8, bool, bool, bool), out: &[u8], sdu: &[u8], from: usize, len: 
     let mut here = out.to_vec();
     let count = here.len();
     let written = unsafe { leaf_to_bitbuf(kind, has_fcs, nr, ns, here.as_mut_ptr(), count, sdu.as_ptr(), sdu.len(), from, len) };
-    let rust = rust_write(pdu, out, sdu, from, len);
+    let rust = rust_write(pdu, out, sdu, from, len, has_fcs);
     let is_inside = from.checked_add(len).is_some_and(|end| end <= 8 * sdu.len());
+    let names = match (has_fcs, len) {
+        (false, _) => NAMES,
+        (true, 0) => ZEROS,
+        (true, _) => APPENDED,
+    };
     let (answer, expected) = match rust {
         // "A long SDU": the Rust has no limit, and writes it where there is room.
         _ if len > LONGEST && is_inside => ("5, a long SDU", (REFUSED + 5, out.to_vec())),
-        Some(rust) => (NAMES[kind as usize], rust),
+        Some(rust) => (names[kind as usize], rust),
         None if !is_inside => ("5", (REFUSED + 5, out.to_vec())),
+        None if has_fcs && rust_write(pdu, out, sdu, from, len, false).is_some() => {
+            ("8, by the FCS alone", (REFUSED + 8, out.to_vec()))
+        }
         None => ("8", (REFUSED + 8, out.to_vec())),
     };
     let input = || format!("{pdu:?} with {len} bits from {from} of {} bytes into {count}", sdu.len());
@@ -177,9 +201,11 @@ pub fn compare(prng: &mut Prng) -> bool {
         let pdu = (number >> 3, number & 4 != 0, number & 2 != 0, number & 1 != 0);
         for len in lens {
             for from in [0, 1, 5, 8, 11, 44, 45, 46, usize::MAX] {
-                // Room for all, for just this, for one byte less.
-                let least = len.saturating_add(6).div_ceil(8).min(340);
-                for room in [340, least, least.saturating_sub(1), 0] {
+                // Room for all, for just this, for one byte less, for all but the FCS, for none.
+                let check_bits = if pdu.1 { 32 } else { 0 };
+                let before = len.saturating_add(HEADERS[pdu.0 as usize]);
+                let [least, without] = [before.saturating_add(check_bits), before].map(|bits| bits.div_ceil(8).min(340));
+                for room in [340, least, least.saturating_sub(1), without, 0] {
                     write(pdu, &random(room, prng), &sdu, from, len, &mut report);
                 }
             }
@@ -189,7 +215,7 @@ pub fn compare(prng: &mut Prng) -> bool {
         let pdu = (prng.below(4) as u8, prng.once_in(2), prng.once_in(2), prng.once_in(2));
         let sdu = random(prng.below(20), prng);
         let (from, len) = (prng.below(8 * sdu.len() + 2), prng.below(8 * sdu.len() + 2));
-        write(pdu, &random(prng.below(22), prng), &sdu, from, len, &mut report);
+        write(pdu, &random(prng.below(26), prng), &sdu, from, len, &mut report);
     }
     for x in (0..=300).chain([1 << 32, u64::MAX]).chain((0..1000).map(|_| prng.next())) {
         let rust = LlcPduType::try_from(x).map(|found| found.into_raw());

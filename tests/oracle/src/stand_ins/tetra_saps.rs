@@ -1,7 +1,7 @@
 //! Stand-in for the crate `tetra_saps`: the messages that the link takes and gives. What the link only passes on travels in
 //! `PassOn`, in fields of the Rust's own names.
 
-/// Document 01's pass-through block, and whether the request gave a timeslot mask.
+/// Document 01's pass-through block, and what the request's flags were.
 #[derive(Debug, Clone, Copy, PartialEq, Eq)]
 pub struct PassOn {
     /// How many of `bytes` are the block.
@@ -10,6 +10,8 @@ pub struct PassOn {
     pub bytes: [u8; 64],
     /// Was a timeslot mask given?
     pub has_mask: bool,
+    /// The tag of the request, if it asked for an FCS.
+    pub fcs_asked_by: Option<u8>,
 }
 
 /// What CMCE asks of channels.

@@ -11,7 +11,7 @@ use Rattle.fcs.specs.Answers as Fcs
 use Rattle.fcs.specs.Fcs.{fcsBits}
 use Rattle.llc_pdus.specs.Answers.{headed, answered, sduOf}
 use Rattle.llc_pdus.specs.Headers.{header}
-use Rattle.llc_pdus.specs.Received.{checkBits}
+use Rattle.llc_pdus.specs.Frames.{checkBits}
 use Rattle.llc_pdus.specs.Sdus.{sduAt}
 use Rattle.llc_pdus.specs.declared.headers.HeaderEnd.{HeaderEnd}
 use Rattle.llc_pdus.specs.declared.Read.{Read}
