@@ -18,8 +18,8 @@ use Rattle.llc_pdus.specs.Headers.{hasFcs}
 use Rattle.llc_pdus.specs.Frames.{checkBits, checkSequence}
 use Rattle.llc_pdus.specs.declared.Pdu.{Pdu}
 
--- With the flag there are 32 check bits.
-pub announced : (p : Pdu) → hasFcs p ≡ true → checkBits p ≡ 32
+-- With the flag there are check bits.
+pub announced : (p : Pdu) → hasFcs p ≡ true → checkBits p ≡ fcsBits
 announced p e = ap (λ (b : Bool). cond b fcsBits 0) e
 
 -- Without it nothing is put.
@@ -35,7 +35,7 @@ module _ (r : FcsModule.Fcs) (s : List ℕ) (from n : ℕ) (there : from + n ≤
       (p : Pdu) (l : List ℕ) (at sum : ℕ)
       → hasFcs p ≡ true
       → r ≡ Sum sum
-      → splice l at (toBits 32 sum) ≡ splice l at (checkSequence p (part s from n))
+      → splice l at (toBits fcsBits sum) ≡ splice l at (checkSequence p (part s from n))
   sum-put p l at sum flag is =
       let sdu : List ℕ = part s from n in
       let same : sum ≡ value (fcs sdu) = cc is-sum in

@@ -3,6 +3,7 @@ ghost use Prim.Native.Nat.{_+_, _^_, _≤_, _<_};
 ghost use mathlib.Core.Path.{_≡_};
 ghost use lib.ListN.{length};
 ghost use Rattle.bits.specs.Bits.{toBits, value, bits, part, splice};
+ghost use Rattle.fcs.specs.Fcs.{fcsBits};
 ghost use Rattle.questions.specs.Effect.{effect};
 ghost use Rattle.llc_pdus.specs.Answers.{written};
 ghost use Rattle.llc_pdus.specs.Headers.{bit as bitOf, header};
@@ -124,11 +125,11 @@ fn put_check(pdu: Pdu, sdu: &[u8], from: usize, len: usize, at: usize, out: &mut
     }
 }
 
-// Puts 32 check bits to a place.
+// Puts check bits, which are given as a number, to a place.
 fn put_sum(sum: u32, at: usize, out: &mut [u8])
     requires { ⌜ at ≤ 6 + longest ⌝ }
-    requires { ⌜ at + 32 ≤ length (bits (now out)) ⌝ }
-    ensures { λ _. ⌜ bits (now (out .exit)) ≡ splice (bits (now (out .entry))) at (toBits 32 sum) ⌝ }
+    requires { ⌜ at + fcsBits ≤ length (bits (now out)) ⌝ }
+    ensures { λ _. ⌜ bits (now (out .exit)) ≡ splice (bits (now (out .entry))) at (toBits fcsBits sum) ⌝ }
 {
     let last = BitBuffer {
         start: 0,

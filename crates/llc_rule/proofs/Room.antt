@@ -170,7 +170,8 @@ tick-end-room l w h =
     rw (four (retransmissions l .out) (firstSendings l .out) (map replyTo (l .due)) (map unacknowledged (l .unacknowledged)))
     (omega (arith, modest-retransmissions l, modest-firsts l, w .acknowledged, w .due, w .unacknowledged))
 
--- It is no more than that: 96 messages and 64 replies of the longest kind.
+-- The number is that of 96 messages and 64 replies of the longest kind. No tick end reaches it: an unacknowledged message takes a
+-- byte less.
 pub no-slack : outputBytes ≡ 96 * mostSent + 64 * mostReply
 no-slack = refl
 
