@@ -1,4 +1,5 @@
 //! Lines in order, and the answers that are expected to them, from a new state on.
+use crate::four::{Four, Seen};
 use crate::generator::Generator;
 use crate::held::Held;
 use crate::oracle::Oracle;
@@ -10,14 +11,15 @@ pub struct Batch {
     pub oracle: Oracle,
     pub lines: Vec<Vec<u8>>,
     pub expected: Vec<Outcome>,
-    /// Places where the Rust does not do what document 01 says of it.
+    /// Places where the Rust does not do what document 01 or request P4 says of it.
     pub faults: Vec<(usize, String)>,
+    four: Four,
 }
 
 impl Batch {
     /// No lines yet.
     pub fn new() -> Batch {
-        Batch { oracle: Oracle::new(), lines: Vec::new(), expected: Vec::new(), faults: Vec::new() }
+        Batch { oracle: Oracle::new(), lines: Vec::new(), expected: Vec::new(), faults: Vec::new(), four: Four::new() }
     }
 
     /// These lines.
@@ -34,9 +36,9 @@ impl Batch {
         let answer = self.oracle.line(&line);
         let text = text(answer.number, answer.records.iter().map(|record| record.as_slice()));
         self.expected.push(Outcome { text, held: Some(Held::by_oracle(&self.oracle)) });
-        if let Some(fault) = answer.fault {
-            self.faults.push((self.lines.len(), fault));
-        }
+        let seen = Seen::of(&self.oracle, &line, answer.number, answer.records);
+        let broken = self.four.see(&seen, &mut self.oracle.coverage).err();
+        self.faults.extend(answer.fault.into_iter().chain(broken).map(|fault| (self.lines.len(), fault)));
         self.lines.push(line);
     }
 

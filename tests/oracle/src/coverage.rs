@@ -145,6 +145,19 @@ pub const WANTED: &[&str] = &[
     "N(S) with every row taken",
     "BL-UDATA without a row",
     "BL-ACK without a row",
+    "Lost after four sendings transmitted",
+    "Lost with a sending discarded",
+    "Discarded after four sendings discarded",
+    "Discarded with a sending transmitted",
+    "Acknowledged after four sendings",
+    "Acknowledged after fewer sendings",
+    "under way at a start",
+    "resend at T251 or later",
+    "resend before its done time",
+    "resend across the wrap",
+    "leaving at T251 or later",
+    "leaving before its done time",
+    "leaving across the wrap",
 ];
 
 /// Counts by name.

@@ -4,6 +4,7 @@ use crate::bits::Bits;
 use crate::call::{Call, Frame};
 use crate::caught::caught;
 use crate::check_sequence::bit;
+use crate::four_faults::print_noticed;
 use crate::header::{self, Header};
 use crate::misappend::{AGAIN, UNDUE, WAYS};
 use crate::oracle::{Oracle, Started};
@@ -338,7 +339,7 @@ fn is_told(lines: &[Vec<u8>], expected: &[String], fault: Fault) -> bool {
     is_told
 }
 
-/// Prints whether the lines of a file tell every fault apart; ends the program.
+/// Prints whether the lines of a file tell every fault apart, and whether those of P4 are noticed; ends the program.
 pub fn print_told(file: &Path) {
     let lines = lines_of(file);
     let mut oracle = Oracle::new();
@@ -353,5 +354,6 @@ pub fn print_told(file: &Path) {
     } else {
         println!("FAILED: {} does not tell apart: {}", file.display(), missed.join(", "));
     }
-    std::process::exit(!missed.is_empty() as i32);
+    let is_noticed = print_noticed(&lines);
+    std::process::exit((!missed.is_empty() || !is_noticed) as i32);
 }

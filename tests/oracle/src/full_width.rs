@@ -1,8 +1,9 @@
 //! Runs that tell faults apart: every field of every call and record with a value that differs in every byte, each tag and each
 //! value next to the known ones, SDUs of each length at which trimming or an FCS that goes down changes something, repeats, calls
-//! that fail two questions, and every row taken.
+//! that fail two questions, every row taken, and orders that are sent four times.
 use crate::bits::Bits;
 use crate::call::{Call, Frame, Request};
+use crate::four::WRAP;
 use crate::hex_line::line_of;
 use crate::oracle::{DUE, MESSAGES, ROWS, UNACKNOWLEDGED};
 
@@ -297,6 +298,41 @@ fn orders() -> Vec<Call> {
     calls
 }
 
+/// The tick start of a slot, counted around the wrap.
+fn slot(at: i64) -> Call {
+    let at = at.rem_euclid(WRAP);
+    time((at / 4320) as u16, (at / 72 % 60 + 1) as u8, (at / 4 % 18 + 1) as u8, (at % 4 + 1) as u8)
+}
+
+/// Orders that are handed down four times, and end Lost, Discarded or Acknowledged. Behind each report comes a tick end in which
+/// the sending is done, one in which it is one slot short of T251, and one in which it is due: T251 slots old or more, or ahead.
+fn sendings() -> Vec<Call> {
+    let t251 = 3;
+    let mut calls = vec![Call::Start { carrier: MAIN_CARRIER, t251 }];
+    // A first slot, the reports, and how many slots after each done time the message is due; without the last it is acknowledged.
+    let ways: [(i64, [u8; 4], &[i64]); 5] = [
+        (10, [1, 1, 1, 1], &[3, 3, 3, 3]),
+        (20, [2, 2, 2, 2], &[-1, -2, -WRAP / 2, -1]),
+        (WRAP - 5, [1, 2, 1, 2], &[4, 3, -2, 3]),
+        (1, [2, 1, 2, 1], &[-2, 3, WRAP / 2 - 1, -WRAP / 2]),
+        (30, [1, 2, 2, 1], &[3, -1, 3]),
+    ];
+    for (address, (mut now, reports, later)) in (0..).zip(ways) {
+        let receipt = address as u8;
+        calls.extend([slot(now), Call::Data(short(ssi(address), receipt)), Call::TickEnd]);
+        for (place, value) in reports.into_iter().enumerate() {
+            calls.extend([Call::Report { receipt, value }, Call::TickEnd, slot(now + i64::from(t251) - 1), Call::TickEnd]);
+            match later.get(place) {
+                Some(later) => now += later,
+                None => calls.push(Call::Frame(numbered(address, 3, 0, 0))),
+            }
+            calls.extend([slot(now), Call::TickEnd]);
+        }
+        calls.push(Call::Release { receipt });
+    }
+    calls
+}
+
 /// The lines: behind the fields each tag next to the known ones, its lengths as a known one has them.
 pub fn lines() -> Vec<Vec<u8>> {
     let mut lines: Vec<Vec<u8>> = fields().iter().map(|call| line_of(&call.bytes())).collect();
@@ -318,7 +354,7 @@ pub fn lines() -> Vec<Vec<u8>> {
         Call::Release { receipt: 1 },
     ];
     lines.extend(known.into_iter().map(|call| tagged(call.bytes()[0] | 0x80, call)));
-    let runs = [trimmed(), announced(), repeats(), ranges(), orders(), rows()];
+    let runs = [trimmed(), announced(), repeats(), ranges(), orders(), rows(), sendings()];
     lines.extend(runs.iter().flatten().map(|call| line_of(&call.bytes())));
     lines
 }

@@ -9,6 +9,8 @@ pub mod compare;
 pub mod comparison;
 pub mod coverage;
 pub mod faults;
+pub mod four;
+pub mod four_faults;
 pub mod full_width;
 pub mod generator;
 pub mod header;
