@@ -80,7 +80,7 @@ struct wipturay_scheduled_out_ack {
 struct wipturay_receipt_place {
     bool taken;
     bool expects_ack;
-    uint8_t state; /**< 0 Pending, 1 Discarded, 2 Transmitted, 3 Lost, 4 Acknowledged. */
+    uint8_t state; /**< 0 Pending, 1 Discarded, 2 Transmitted, 3 Lost (handed down four times, the last time transmitted), 4 Acknowledged. */
 };
 
 /** The row of an SSI: its send sequence variable, and the last N(S) that was accepted from it. */

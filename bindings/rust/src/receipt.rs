@@ -5,11 +5,13 @@
 pub enum TxState {
     /// The message is queued and not yet sent over the air.
     Pending,
-    /// The lower layer had to discard the message. The link may still send it again: only an accepted release tells the end.
+    /// The lower layer had to discard the message. The link may still send it again: only an accepted release tells the end, after four
+    /// times of which earlier ones may have been received.
     Discarded,
     /// The lower layer has sent the message over the air.
     Transmitted,
-    /// The message was transmitted and no acknowledgement came.
+    /// The message was handed down four times, the last time it was transmitted, and no acknowledgement came in time. It may have been
+    /// received all the same.
     Lost,
     /// The remote side has acknowledged receipt.
     Acknowledged,

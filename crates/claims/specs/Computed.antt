@@ -1,6 +1,6 @@
 -- Runs that the checker computes (llc_rule proofs/Runs and proofs/Instance): document 01's sample, its edges, what the course gets wrong,
 -- awkward runs, marks, full widths, orders of questions, ranges, check sequences, check bits that are cut, repeats, check sequences
--- that are sent, and the instance.
+-- that are sent, orders that leave after four sendings, and the instance.
 use mathlib.Core.Path.{_≡_}
 use mathlib.Core.Bool.{true}
 use Rattle.llc_rule.specs.Link.{new}
@@ -17,6 +17,7 @@ use Rattle.llc_rule.proofs.Runs.Checks as Checks
 use Rattle.llc_rule.proofs.Runs.CheckBits as CheckBits
 use Rattle.llc_rule.proofs.Runs.Repeats as Repeats
 use Rattle.llc_rule.proofs.Runs.Announced as Announced
+use Rattle.llc_rule.proofs.Runs.Lost as Lost
 use Rattle.llc_rule.proofs.Instance.{instance, turned}
 
 pub record Computed : Type 0 where
@@ -91,5 +92,11 @@ pub record Computed : Type 0 where
   pub announced-kinds : agrees new Announced.kinds ≡ true
   pub announced-unitdata : agrees new Announced.unitdata ≡ true
   pub announced-resent : agrees new Announced.resent ≡ true
+  pub lost-ages : agrees new Lost.ages ≡ true
+  pub lost-discarded : agrees new Lost.discarded ≡ true
+  pub lost-stands : agrees new Lost.stands ≡ true
+  pub lost-wraps : agrees new Lost.wraps ≡ true
+  pub lost-jumps : agrees new Lost.jumps ≡ true
+  pub lost-there-and-back : agrees new Lost.there-and-back ≡ true
   pub instance-agrees : agrees new instance ≡ true
   pub turned-agrees : agrees new turned ≡ true

@@ -1,4 +1,5 @@
 pub mod Runs
+pub mod OrdersLost
 pub mod SlotTime
 pub mod Receipts
 pub mod Bits

@@ -2,6 +2,7 @@
 // a record of theorems, and is proved only with all of them. For one more: a field in specs/, a line in the function's proof, and its
 // name in docs/CLAIMS.md (tests/claims).
 ghost use Rattle.claims.specs.Runs.{Runs};
+ghost use Rattle.claims.specs.OrdersLost.{OrdersLost};
 ghost use Rattle.claims.specs.SlotTime.{SlotTime};
 ghost use Rattle.claims.specs.Receipts.{Receipts};
 ghost use Rattle.claims.specs.Bits.{Bits};
@@ -18,6 +19,11 @@ ghost use Rattle.claims.specs.Examples.{Examples};
 /// Runs of the entry point.
 pub fn runs()
     ensures { λ r. ⌜ Runs ⌝ }
+{}
+
+/// What Lost tells.
+pub fn orders_lost()
+    ensures { λ r. ⌜ OrdersLost ⌝ }
 {}
 
 /// Slot time.

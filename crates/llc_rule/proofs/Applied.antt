@@ -28,8 +28,8 @@ use Rattle.llc_rule.specs.Repeats.{begins, hears, heardIn, lastFrom, Wen
 use Rattle.llc_rule.specs.Texts.{textsIn}
 use Rattle.llc_rule.specs.Claim.{whoseAfter}
 use Rattle.llc_rule.proofs.Swap.{swap}
-use Rattle.llc_rule.proofs.Sendings.{four-run}
-use Rattle.llc_rule.proofs.SendingsByRule.{four-ruled}
+use Rattle.llc_rule.proofs.Lost.{four-run}
+use Rattle.llc_rule.proofs.LostByRule.{four-ruled}
 use Rattle.llc_rule.proofs.ReadBack.{read-back-run}
 use Rattle.llc_rule.proofs.Repeats.{repeats-run}
 use Rattle.llc_rule.proofs.Texts.{texts-run}
@@ -103,7 +103,7 @@ unfolding after toBytes exchanges openingCalls
 is-accepted = refl
 
 -- A run taken apart at a call.
-run-split :
+pub run-split :
     (l : Link) (before : List (List ℕ)) (c : List ℕ) (later : List (List ℕ))
     → run l (before ++ (c ∷ later))
     ≡ run l before ++ (exchange c (step (after l before) c) ∷ run (left (after l before) (step (after l before) c)) later)

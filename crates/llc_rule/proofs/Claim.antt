@@ -14,8 +14,9 @@ use Rattle.llc_rule.proofs.WhereTransmitted.{where-transmitted, where-t
 use Rattle.llc_rule.proofs.ReadBack.{read-back-run}
 use Rattle.llc_rule.proofs.Repeats.{repeats-run}
 use Rattle.llc_rule.proofs.Texts.{texts-run}
-use Rattle.llc_rule.proofs.Sendings.{four-run}
-use Rattle.llc_rule.proofs.SendingsByRule.{four-ruled}
+use Rattle.llc_rule.proofs.Lost.{lost-run, four-run}
+use Rattle.llc_rule.proofs.LostByRule.{lost-ruled, four-ruled}
+use Rattle.llc_rule.proofs.Settled.{settled-run}
 
 calls-run : (l : Link) (cs : List (List ℕ)) → calls (run l cs) ≡ map (λ (c : List ℕ). c) cs
 unfolding run
@@ -38,4 +39,7 @@ claims =
       readBack = read-back-run;
       four = four-run;
       fourByRule = four-ruled;
+      lost = lost-run;
+      lostByRule = lost-ruled;
+      settled = settled-run;
     }

@@ -139,14 +139,21 @@ received-asked b = checked-asked b (reading b) (reading-asked b)
 -- A request whose message is put last among the acknowledged ones.
 pub record Acknowledged (r : Request) (l : Link) : Type 0 where
   pub range : requestInRange r ≡ true
+  pub path : onAcknowledgedPath r ≡ true
   pub free : receiptFree r l ≡ true
   pub row : rowFor (r .ssi) l ≡ true
   pub place : acknowledgedPlace l ≡ true
 
+-- Is a request off that path?
+abbrev pub offPath : Service → Request → Bool
+offPath tlData r = not (onAcknowledgedPath r)
+offPath tlUnitdata r = true
+
 -- And among the unacknowledged ones: link id 0 or its own, a header with its flag, and a due acknowledgement that it uses up or
 -- none.
-pub record Unacknowledged (r : Request) (k : ℕ) (p : Pdu) (f : Found Due) (l : Link) : Type 0 where
+pub record Unacknowledged (s : Service) (r : Request) (k : ℕ) (p : Pdu) (f : Found Due) (l : Link) : Type 0 where
   pub range : requestInRange r ≡ true
+  pub path : offPath s r ≡ true
   pub free : receiptFree r l ≡ true
   pub place : unacknowledgedPlace l ≡ true
   pub link : k ≤ r .link
@@ -183,7 +190,7 @@ pub record Paths (l : Link) (P : Call → Link → List Record → Type 0) : Typ
   pub acknowledged : (r : Request) → Acknowledged r l → P (request tlData r) (withAcknowledged r l) []
   pub unacknowledged :
       (s : Service) (r : Request) (link : ℕ) (p : Pdu) (used : Found Due)
-      → Unacknowledged r link p used l
+      → Unacknowledged s r link p used l
       → P (request s r) (withUnacknowledged r link p (others used (l .due)) l) []
   pub heard :
       (f : Frame) (r : Received)
@@ -204,20 +211,21 @@ module _ (l : Link) (P : Call → Link → List Record → Type 0) (paths : Path
       (r : Request) (Q : Outcome (Done Link) → Type 0)
       → ((d : Done Link) → P (request tlData r) (d .state) (d .records) → Q (accepted d))
       → requestInRange r ≡ true
+      → offPath tlData r ≡ true
       → receiptFree r l ≡ true
       → unacknowledgedPlace l ≡ true
       → (f : Found Due)
       → TakenOut (isDueFor r l) (l .due) f
       → Q (accepted (done (withStolen r l f) []))
   unfolding withStolen
-  stolen-law r Q if-accepted range fr place nothing out =
+  stolen-law r Q if-accepted range off fr place nothing out =
       if-accepted _
       (paths .unacknowledged tlData r 0 (BlUdata false) nothing
-      (record { range = range; free = fr; place = place; link = omega arith; flag = refl; used = out }))
-  stolen-law r Q if-accepted range fr place (first d ds) out =
+      (record { range = range; path = off; free = fr; place = place; link = omega arith; flag = refl; used = out }))
+  stolen-law r Q if-accepted range off fr place (first d ds) out =
       if-accepted _
       (paths .unacknowledged tlData r (r .link) (BlAck (wantsFcs r) (d .nr)) (first d ds)
-      (record { range = range; free = fr; place = place; link = omega arith; flag = refl; used = out }))
+      (record { range = range; path = off; free = fr; place = place; link = omega arith; flag = refl; used = out }))
 
   data-law :
       (r : Request) (Q : Outcome (Done Link) → Type 0)
@@ -232,12 +240,12 @@ module _ (l : Link) (P : Call → Link → List Record → Type 0) (paths : Path
       (λ path.
       by-question Q 7 (rowFor (r .ssi) l) (if-refused 7 refl) λ row.
       by-question Q 8 (acknowledgedPlace l) (if-refused 8 refl) λ place.
-      if-accepted _ (paths .acknowledged r (record { range = range; free = fr; row = row; place = place })))
+      if-accepted _ (paths .acknowledged r (record { range = range; path = path; free = fr; row = row; place = place })))
       (λ path.
       by-question Q 8 (unacknowledgedPlace l) (if-refused 8 refl) λ place.
       by-choice (λ (k : Link). Q (accepted (done k []))) (steals r)
-      (λ s. stolen-law r Q if-accepted range fr place (dueFor r l) (found-out _ (l .due) (dueFor r l) (find-by _ (l .due))))
-      (λ s. stolen-law r Q if-accepted range fr place nothing tt))
+      (λ s. stolen-law r Q if-accepted range (ap not path) fr place (dueFor r l) (found-out _ (l .due) (dueFor r l) (find-by _ (l .due))))
+      (λ s. stolen-law r Q if-accepted range (ap not path) fr place nothing tt))
 
   unitdata-law :
       (r : Request) (Q : Outcome (Done Link) → Type 0)
@@ -251,7 +259,7 @@ module _ (l : Link) (P : Call → Link → List Record → Type 0) (paths : Path
       by-question Q 8 (unacknowledgedPlace l) (if-refused 8 refl) λ place.
       if-accepted _
       (paths .unacknowledged tlUnitdata r (r .link) (BlUdata false) nothing
-      (record { range = range; free = fr; place = place; link = omega arith; flag = refl; used = tt }))
+      (record { range = range; path = refl; free = fr; place = place; link = omega arith; flag = refl; used = tt }))
 
   heard-law :
       (f : Frame) (Q : Outcome (Done Link) → Type 0)
@@ -345,3 +353,19 @@ refused-number l bytes n =
 pub not-one : (l : Link) (bytes : List ℕ) → eqb (number (step l bytes)) 1 ≡ false
 not-one l bytes =
     step-law l _ (anyhow l) bytes (λ o. eqb (number o) 1 ≡ false) (λ n k. ne-eqb n 1 (λ e. omega (arith, e, k .low))) (λ c d read t. refl)
+
+-- An accepted call passed questions 4 and 5.
+pub record Passed (c : Call) (l : Link) : Type 0 where
+  pub started : isStart c || l .started ≡ true
+  pub range : inRange c ≡ true
+
+pub passed : (l : Link) (bytes : List ℕ) (c : Call) → parsed bytes ≡ accepted c → number (step l bytes) ≡ 0 → Passed c l
+unfolding step called
+passed l bytes c e =
+    rw e
+    (by-question (λ (o : Outcome (Done Link)). number o ≡ 0 → Passed c l) 4 (isStart c || l .started)
+    (λ z. absurd (omega (arith, z)))
+    λ started.
+    by-question (λ (o : Outcome (Done Link)). number o ≡ 0 → Passed c l) 5 (inRange c)
+    (λ z. absurd (omega (arith, z)))
+    λ range z. record { started = started; range = range })

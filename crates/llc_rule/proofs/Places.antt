@@ -1,9 +1,9 @@
 -- The places of receipts: one that was written, and one that was marked.
 use Prim.Native.Nat.{ℕ, zero, suc, _≤_, _<_}
-use mathlib.Core.Path.{_≡_, _∙_, refl, ap}
-use mathlib.Core.Bool.{false, cond}
+use mathlib.Core.Path.{_≡_, _∙_, refl, sym, ap}
+use mathlib.Core.Bool.{Bool, true, false, cond}
 use mathlib.Core.List.{List, [], _∷_}
-use borrow.Author.Tests.{eqb-true, eqb-false, ltb-true, ltb-false}
+use borrow.Author.Tests.{eqb-true, eqb-false, eq-eqb, ne-eqb, ltb-true, ltb-false}
 use lib.Dec.{eqb, ltb}
 use lib.ListN.{length, set, length-set, List·getD-eq-default}
 use lib.Seq.{getD-set-other, set-out}
@@ -13,6 +13,11 @@ use Rattle.tx_receipt.specs.Marks as Marks
 use Rattle.tx_receipt.specs.Marks.{Mark}
 use Rattle.llc_rule.specs.Messages.{Place, free, taken, placeAt, isFree, taken?, marked, mark}
 use Rattle.llc_rule.specs.Sound.{expects}
+
+-- Two receipts, in either order.
+pub turned : (i j : ℕ) (b : Bool) → eqb i j ≡ b → eqb j i ≡ b
+turned i j true e = eq-eqb j i (sym (eqb-true i j e))
+turned i j false e = ne-eqb j i (λ q. eqb-false i j e (sym q))
 
 -- A place that was written, and another.
 pub place-set :

@@ -18,7 +18,7 @@ use Rattle.llc_pdus.specs.declared.Pdu.{Pdu}
 use Rattle.llc_pdus.specs.declared.Pdu.the-variants.{BlAdata, BlData, BlUdata, BlAck}
 use Rattle.llc_pdus.proofs.CheckBits.{frame-received, reply-received}
 use Rattle.llc_pdus.proofs.Framing.{frame-short}
-use Rattle.llc_rule.specs.Calls.{Request, Frame}
+use Rattle.llc_rule.specs.Calls.{Service, Request, Frame}
 use Rattle.llc_rule.specs.Records.{Record, unacknowledged, Sent}
 use Rattle.llc_rule.specs.Ranges.{requestInRange}
 use Rattle.llc_rule.specs.Upward.{upward}
@@ -131,8 +131,8 @@ module _ (hs : Holders) (h : Requests) (l : Link) (sound : Sound hs l) (a : AllC
       }
 
   unacknowledged-next :
-      (r : Request) (link : ℕ) (p : Pdu) (used : Found Due) (ds : List Due)
-      → Unacknowledged r link p used l
+      {v : Service} (r : Request) (link : ℕ) (p : Pdu) (used : Found Due) (ds : List Due)
+      → Unacknowledged v r link p used l
       → Next h (holding (r .receipt) (some r) h) (withUnacknowledged r link p ds l) []
   unfolding withUnacknowledged
   unacknowledged-next r link p used ds q =

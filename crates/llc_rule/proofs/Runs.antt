@@ -12,6 +12,7 @@ pub mod Checks
 pub mod CheckBits
 pub mod Repeats
 pub mod Announced
+pub mod Lost
 use Prim.Native.Nat.{ℕ, zero, suc}
 use mathlib.Core.Bool.{Bool, true, false, _&&_}
 use mathlib.Core.List.{List, [], _∷_, _++_, map}

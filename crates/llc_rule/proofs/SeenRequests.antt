@@ -12,7 +12,7 @@ use Rattle.lists.proofs.Lists.{keep-append, find-by, TakenOut, found-out}
 use Rattle.lists.proofs.Choices.{by-test, both}
 use Rattle.llc_pdus.specs.declared.Pdu.{Pdu}
 use Rattle.llc_pdus.specs.declared.Pdu.the-variants.{BlUdata, BlAck}
-use Rattle.llc_rule.specs.Calls.{Request}
+use Rattle.llc_rule.specs.Calls.{Service, Request}
 use Rattle.llc_rule.specs.Ranges.{steals, wantsFcs}
 use Rattle.llc_rule.specs.Records.{Sent}
 use Rattle.llc_rule.specs.Messages.{Message, Due, Place, free, taken, placeAt, isFree, pending, waiting, carrierOf, sentOf}
@@ -243,8 +243,8 @@ acknowledged-other a r h l k e lt =
     own-parts a h (holding (r .receipt) (some (r .ssi)) h) l (withAcknowledged r l) refl numbers messages refl dues places
 
 pub unacknowledged-other :
-    (a : ℕ) (r : Request) (h : Holders) (l : Link) (link : ℕ) (p : Pdu) (used : Found Due)
-    → Unacknowledged r link p used l
+    {v : Service} (a : ℕ) (r : Request) (h : Holders) (l : Link) (link : ℕ) (p : Pdu) (used : Found Due)
+    → Unacknowledged v r link p used l
     → eqb (r .ssi) a ≡ false
     → r .receipt < length (l .receipts)
     → own a (holding (r .receipt) (some (r .ssi)) h) (withUnacknowledged r link p (others used (l .due)) l) ≡ own a h l

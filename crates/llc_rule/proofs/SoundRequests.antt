@@ -14,7 +14,7 @@ use Rattle.lists.proofs.Lists.{keep-append, all-append, all-map, find-by, Taken
 use Rattle.lists.proofs.Choices.{by-test, clash}
 use Rattle.lists.proofs.Tables.{length-filed}
 use Rattle.llc_pdus.specs.declared.Pdu.{Pdu}
-use Rattle.llc_rule.specs.Calls.{Request}
+use Rattle.llc_rule.specs.Calls.{Service, Request}
 use Rattle.llc_rule.specs.Ranges.{requestInRange}
 use Rattle.llc_rule.specs.Records.{Sent}
 use Rattle.llc_rule.specs.Messages.{Message, waiting, Due, Place, free, pending, placeAt, isFree, carrierOf, sentOf}
@@ -264,8 +264,8 @@ sound-with-acknowledged h l r a s =
     s
 
 pub sound-with-unacknowledged :
-    (h : Holders) (l : Link) (r : Request) (link : ℕ) (p : Pdu) (used : Found Due)
-    → Unacknowledged r link p used l
+    {v : Service} (h : Holders) (l : Link) (r : Request) (link : ℕ) (p : Pdu) (used : Found Due)
+    → Unacknowledged v r link p used l
     → Sound h l
     → Sound (holding (r .receipt) (some (r .ssi)) h) (withUnacknowledged r link p (others used (l .due)) l)
 unfolding withUnacknowledged sentOf

@@ -23,7 +23,7 @@ use Rattle.llc_rule.specs.Link.{Link}
 use Rattle.llc_rule.specs.Step.{stay, resend, leave, agedBy, retransmission, Sending, firstSending, retransmissions, firstSendings, onTickEnd}
 use Rattle.llc_rule.specs.Past.{Holders}
 use Rattle.llc_rule.specs.Sound.{Owned, expects, Waiting, acknowledgedWith, ofAddress, oneAhead, Sound}
-use Rattle.llc_rule.proofs.Places.{length-mark, mark-free, mark-expects}
+use Rattle.llc_rule.proofs.Places.{turned, length-mark, mark-free, mark-expects}
 
 -- Receipts ----------------------------------------------------------------------------------------------------------------
 
@@ -50,9 +50,6 @@ not-reported free h = refl
 not-reported (taken r) h = rw (eqb-true (number (r .state)) 0 h)
 
 -- Counts ------------------------------------------------------------------------------------------------------------------
-
-turned : (i j : ℕ) → eqb j i ≡ false → eqb i j ≡ false
-turned i j h = ne-eqb i j (λ e. eqb-false j i h (sym e))
 
 -- No two messages have one receipt.
 abbrev Apart : List Message → Type 0
@@ -104,7 +101,7 @@ still-waiting :
     → All (Waiting ps′) q
 still-waiting i ps ps′ [] t z w = tt
 still-waiting i ps ps′ (m ∷ q) t z w = (
-  waiting-at ps ps′ m (t .other (m .sent .receipt) (turned i (m .sent .receipt) (not-counted i m q z))) (w .0),
+  waiting-at ps ps′ m (t .other (m .sent .receipt) (turned (m .sent .receipt) i false (not-counted i m q z))) (w .0),
   still-waiting i ps ps′ q t (omega (arith, count-rest i m q, z)) (w .1),
 )
 

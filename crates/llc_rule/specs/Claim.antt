@@ -12,6 +12,7 @@ use Rattle.llc_rule.specs.Runs.{Exchange}
 use Rattle.llc_rule.specs.Past.{Whose, belongsTo, whose, holdersAfter}
 use Rattle.llc_rule.specs.Seen.{calls, unhindered, ruled, keptByRule, SeesItsOwnPast, SeesTheSame, countUnderWay, MarkedWhereTransmitted}
 use Rattle.llc_rule.specs.Sendings.{EachAtMostFour}
+use Rattle.llc_rule.specs.Lost.{LostAfterFour, StaysSettled}
 use Rattle.llc_rule.specs.Sound.{ofAddress}
 use Rattle.llc_rule.specs.ReadBack.{AllReadBack}
 use Rattle.llc_rule.specs.Repeats.{RepeatsStop}
@@ -68,3 +69,16 @@ pub record Claims
   -- rule .. each is handed down at most four times".
   pub four : (cs : List C) → EachAtMostFour (run cs)
   pub fourByRule : (cs : List C) → unhindered (run cs) ≡ true → (a : ℕ) → EachAtMostFour (ruled a (run cs))
+  -- "An acknowledged message that leaves unacknowledged, Lost or Discarded, has been handed down exactly four times", and each resend
+  -- has its reason: whatever was refused, and by that rule.
+  pub lost : (cs : List C) → LostAfterFour (run cs) (receipts cs) (messages cs)
+  pub lostByRule :
+      (cs : List C)
+      → unhindered (run cs) ≡ true
+      → (a : ℕ)
+      → LostAfterFour (ruled a (run cs)) (keptByRule a (run cs) .receipts) (keptByRule a (run cs) .acknowledged)
+  -- And by one call more: what has left is released then and not before, and its receipt reads as it did.
+  pub settled :
+      (before : List C) (c : C) (e : Exchange)
+      → run (before ++ (c ∷ [])) ≡ run before ++ (e ∷ [])
+      → StaysSettled e (receipts before) (messages before) (receipts (before ++ (c ∷ [])))

@@ -14,6 +14,7 @@ pub mod Past
 pub mod Sound
 pub mod Seen
 pub mod Sendings
+pub mod Lost
 pub mod ReadBack
 pub mod Repeats
 pub mod Texts

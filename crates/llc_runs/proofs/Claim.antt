@@ -3,7 +3,7 @@ use Prim.Native.Nat.{ℕ, _*_, _≤_}
 use mathlib.Core.Path.{_≡_, _∙_, refl, sym, ap, ap₂, subst}
 use mathlib.Core.Bool.{true, false, not}
 use mathlib.Core.List.{List, [], _∷_, _++_, map}
-use mathlib.Core.Option.{some}
+use mathlib.Core.Option.{Option, none, some}
 use borrow.Author.Tests.{eqb-true}
 use lib.Dec.{eqb}
 use lib.ListN.{length}
@@ -30,7 +30,13 @@ use Rattle.llc_rule.specs.Texts.{textsIn, shown as shownOf, unlessLast, Framed,
 use Rattle.llc_rule.specs.Records.{Record}
 use Rattle.llc_rule.specs.ReadBack.{requestsAfter, ReadBack, AllReadBack}
 use Rattle.llc_rule.specs.Sendings.{requestSpelled, sendings, AtMostFour, EachAtMostFour}
+use Rattle.llc_rule.specs.Messages.{placeAt}
+use Rattle.llc_rule.specs.Lost.{isHeld, LostAfterFour}
 use Rattle.llc_rule.proofs.Paths.{not-one}
+use Rattle.llc_rule.proofs.Watches.{Watch, watchFrom, Each, End}
+use Rattle.llc_rule.proofs.Told as Told
+use Rattle.llc_rule.proofs.Told.{lost-after-four, four-of-each}
+use Rattle.llc_rule.proofs.Lost.{read-run, end-run}
 use Rattle.llc_rule.proofs.Repeats.{StopsAfter, stops-run, repeats-stop}
 use Rattle.llc_rule.proofs.Claim.{claims}
 use Rattle.llc_state.specs.Ranges.{stateInRange}
@@ -40,8 +46,9 @@ use Rattle.llc_runs.specs.Runs.{Lent, Station, begin, left, exchange, ru
 use Rattle.llc_runs.specs.Heard.{lentEnough, fitting, putTo}
 use Rattle.llc_runs.specs.Outputs.{ReadOff}
 use Rattle.llc_runs.specs.Claim.{linkAt, receiptsAfter, messagesAfter, InRange, Claim}
-use Rattle.llc_runs.proofs.Ones.{history-heard, unhindered-heard, four-heard, read-back-heard, each-heard, text-one, text-same, stops-one, stops-same}
+use Rattle.llc_runs.proofs.Ones.{history-heard, unhindered-heard, each-read, watch-read, read-back-heard, each-heard, text-one, text-same, stops-one, stops-same}
 use Rattle.llc_runs.proofs.Runs.{silent, run-split, Asked, asks, asks-not, fitting-append, fitting-yes, fitting-no, follows, wrong-is, stuck, begin-right, begin-wrong, as-step}
+use Rattle.llc_runs.proofs.Settled.{settled-lent}
 use Rattle.llc_runs.proofs.Outputs.{shown, readable, only, lines}
 
 -- Number 1 tells of what is lent, if a call that is lent what is right is put to the link.
@@ -256,6 +263,24 @@ unfolding run exchange
 calls-run s [] = refl
 calls-run s (c ∷ cs) = ap (λ (x : List (List ℕ)). c .call ∷ x) (calls-run (left s c) cs)
 
+-- What is read of a receipt, calls that got number 1 passed over.
+read-of : (store : List ℕ) (cs : List Lent) (i : ℕ) → Each i Told.atFirst none (run (begin store) cs)
+read-of store cs i =
+    each-read i Told.atFirst none (run (begin store) cs) (silent (begin store) cs)
+    (subst (Each i Told.atFirst none) (sym (as-step store cs .heard)) (read-run (putTo store cs) i))
+
+end-of-run :
+    (store : List ℕ) (cs : List Lent) (i : ℕ)
+    → End (watchFrom i Told.atFirst none (run (begin store) cs)) (placeAt (receiptsAfter store cs) i) (isHeld i (messagesAfter store cs))
+end-of-run store cs i =
+    let w : Option Watch = watchFrom i Told.atFirst none (run (begin store) cs) in
+    by-link store cs (λ (l : Link). End w (placeAt (l .receipts) i) (isHeld i (l .acknowledged)))
+    (subst (λ (o : Option Watch). End o (placeAt (Rule.after new (putTo store cs) .receipts) i) (isHeld i (Rule.after new (putTo store cs) .acknowledged)))
+    (sym
+    (watch-read i Told.atFirst none (run (begin store) cs) (silent (begin store) cs)
+    ∙ ap (watchFrom i Told.atFirst none) (as-step store cs .heard)))
+    (end-run (putTo store cs) i))
+
 -- Demand 3 and what follows from it.
 runs : (store : List ℕ) → Claims (λ (c : Lent). c .call) (run (begin store)) (receiptsAfter store) (messagesAfter store)
 runs store =
@@ -296,14 +321,23 @@ runs store =
           λ cs.
           read-back-heard (run (begin store) cs) (silent (begin store) cs)
           (subst AllReadBack (sym (as-step store cs .heard)) (claims .readBack (putTo store cs)));
-      four =
-          λ cs.
-          four-heard (run (begin store) cs) (silent (begin store) cs)
-          (subst EachAtMostFour (sym (as-step store cs .heard)) (claims .four (putTo store cs)));
+      four = λ cs. four-of-each (run (begin store) cs) (read-of store cs);
       fourByRule =
           λ cs u a.
           by-history store cs (λ (k : History). EachAtMostFour (ruleRun atFirst (calls (k .past a))))
           (claims .fourByRule (putTo store cs) (on-link store cs u) a);
+      lost =
+          λ cs.
+          lost-after-four (run (begin store) cs) (receiptsAfter store cs) (messagesAfter store cs) (read-of store cs) (end-of-run store cs);
+      lostByRule =
+          λ cs u a.
+          by-history store cs
+          (λ (k : History).
+          LostAfterFour (ruleRun atFirst (calls (k .past a)))
+          (ruleAfter atFirst (calls (k .past a)) .receipts)
+          (ruleAfter atFirst (calls (k .past a)) .acknowledged))
+          (claims .lostByRule (putTo store cs) (on-link store cs u) a);
+      settled = settled-lent store;
     }
 
 -- Four, by the calls: after any calls and before any calls.

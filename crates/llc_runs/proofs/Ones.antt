@@ -1,10 +1,10 @@
 -- Calls that got number 1 are in no past and change no holder, and they give no record: a run may be read without them.
 use Prim.Native.Nat.{ℕ}
 use native.Mathlib.Omega.{arith}
-use mathlib.Core.Path.{_≡_, _∙_, refl, sym, ap, subst}
+use mathlib.Core.Path.{_≡_, _∙_, refl, sym, ap, ap₂, subst}
 use mathlib.Core.Bool.{Bool, true, false, cond, not, _&&_, false≢true}
 use mathlib.Core.List.{List, [], _∷_, _++_, append-nil}
-use mathlib.Core.Option.{Option, none}
+use mathlib.Core.Option.{Option, none, some}
 use borrow.Author.Tests.{eqb-true, not-false}
 use lib.Dec.{eqb}
 use Rattle.lists.specs.Lists.{keep, any, all, among, All}
@@ -16,10 +16,13 @@ use Rattle.llc_rule.specs.Records.{Record, ssiOf, Sent}
 use Rattle.llc_rule.specs.Runs.{Exchange}
 use Rattle.llc_rule.specs.Past.{nobody, Holding, stays, about, Holders, heldAfter, doneTo, holders, whose, concerns, leftOut, inPast, History, andThen, history}
 use Rattle.llc_rule.specs.Seen.{hindrances, unhindered}
-use Rattle.llc_rule.specs.Sendings.{ends, handed, sendings, AtMostFour, EachAtMostFour}
+use Rattle.llc_rule.specs.Sendings.{ends, handed, sendings}
+use Rattle.llc_rule.specs.Lost.{Event, other, event, eventIn, Clock, clockNext}
 use Rattle.llc_rule.specs.ReadBack.{Requests, requestsThen, requestsFrom, requestsAfter, ReadBack, AllReadBack}
 use Rattle.llc_rule.specs.Repeats.{Hearing, hears, neither, hearing, heardIn, lastNext, lastFrom, lastHeard}
 use Rattle.llc_rule.specs.Texts.{shown, unlessLast, TextGoesUp}
+use Rattle.llc_rule.proofs.Events.{takes-nothing}
+use Rattle.llc_rule.proofs.Watches.{Watch, goesOn, ifAny, watchedBy, watched, watchFrom, GoodBy, GoodIn, Each, first-fine}
 use Rattle.llc_rule.proofs.Repeats.{Stops, StopsAfter}
 use Rattle.llc_runs.specs.Heard.{wasHeard, heardOf}
 
@@ -46,7 +49,7 @@ read-heard Q f same over s (e ∷ es) q =
     over s e es n (q .0) ∙ read-heard Q f same over s es (q .1) ∙ ap (f s) (sym (keep-no wasHeard e es w)))
 
 -- One such call.
-done-one : (e : Exchange) → e .number ≡ 1 → doneTo e ≡ stays
+pub done-one : (e : Exchange) → e .number ≡ 1 → doneTo e ≡ stays
 unfolding doneTo
 done-one e n = if-false (about (e .call) .toHolding) stays (ap (λ (k : ℕ). eqb k 0) n)
 
@@ -105,21 +108,78 @@ sendings-heard i es q =
     ∙ ap (λ (rs : List Record). handed j rs ++ sendings j es) (g n))
     i es q
 
--- And of what is handed down of each request.
-pub four-heard : (es : List Exchange) → All Silent es → EachAtMostFour (heardOf es) → EachAtMostFour es
+-- And of what is read of a receipt.
+none-told : (e : Exchange) → e .number ≡ 1 → eventIn e ≡ other
+unfolding eventIn
+none-told e n = if-false (event (parsed (e .call))) other (ap (λ (k : ℕ). eqb k 0) n)
+
+any-same : (i : ℕ) (k : Clock) (ss : List Sent) (w : Option Watch) → ifAny (goesOn i k other ss) w ≡ w
+any-same i k ss none = refl
+any-same i k ss (some u) = refl
+
+module _ (i : ℕ) (k : Clock) (w : Option Watch) (e : Exchange) (one : e .number ≡ 1) (silent : e .records ≡ []) where
+  none-handed : handed i (e .records) ≡ []
+  unfolding handed
+  none-handed = ap (handed i) silent
+
+  watched-one : watched i k e w ≡ w
+  unfolding watched
+  watched-one =
+      ap₂ (λ (v : Event) (x : Holding). watchedBy i k v x (handed i (e .records)) w) (none-told e one) (done-one e one)
+      ∙ any-same i k (handed i (e .records)) w
+
+  good-by : (o : Option Watch) → GoodBy i k o other stays []
+  good-by none = refl
+  good-by (some u) =
+      record {
+        untaken = λ r t. takes-nothing stays refl r t;
+        sent = tt;
+        unreported = λ order how t. let no : false ≡ true = cc in absurd (false≢true no);
+      }
+
+  good-one : GoodIn i k w e
+  good-one =
+      subst (λ (v : Event). GoodBy i k w v (doneTo e) (handed i (e .records))) (sym (none-told e one))
+      (subst (λ (x : Holding). GoodBy i k w other x (handed i (e .records))) (sym (done-one e one))
+      (subst (GoodBy i k w other stays) (sym none-handed) (good-by w)))
+
+  clock-one : clockNext k (eventIn e) ≡ k
+  clock-one = ap (clockNext k) (none-told e one)
+
+pub each-read :
+    (i : ℕ) (k : Clock) (w : Option Watch) (es : List Exchange) → All Silent es → Each i k w (heardOf es) → Each i k w es
 unfolding keep
-four-heard es q f =
-    record {
-      each =
-          λ before e later r is n t.
-          let silent = all-back Silent before (e ∷ later) (subst (All Silent) is q) in
-          let split =
-          ap heardOf is
-          ∙ keep-append wasHeard before (e ∷ later)
-          ∙ ap (λ (x : List Exchange). heardOf before ++ x) (keep-yes wasHeard e later (ap (λ (k : ℕ). not (eqb k 1)) n)) in
-          subst (AtMostFour r) (sym (sendings-heard (r .receipt) later (silent .1)))
-          (f .each (heardOf before) e (heardOf later) r split n t);
-    }
+each-read i k w [] q each = each
+each-read i k w (e ∷ es) q each =
+    by-test (wasHeard e)
+    (λ h.
+    let here = subst (Each i k w) (keep-yes wasHeard e es h) each in
+    (here .0, (here .1 .0, each-read i (clockNext k (eventIn e)) (watched i k e w) es (q .1) (here .1 .1))))
+    (λ h.
+    let one = eqb-true (e .number) 1 (not-false (eqb (e .number) 1) h) in
+    let none-here = q .0 one in
+    let rest = each-read i k w es (q .1) (subst (Each i k w) (keep-no wasHeard e es h) each) in (
+      first-fine i k w es rest,
+      (
+        good-one i k w e one none-here,
+        subst (λ (c : Clock). Each i c (watched i k e w) es) (sym (clock-one i k w e one none-here))
+            (subst (λ (o : Option Watch). Each i k o es) (sym (watched-one i k w e one none-here)) rest),
+      ),
+    ))
+
+pub watch-read :
+    (i : ℕ) (k : Clock) (w : Option Watch) (es : List Exchange) → All Silent es → watchFrom i k w es ≡ watchFrom i k w (heardOf es)
+unfolding watchFrom keep
+watch-read i k w [] q = refl
+watch-read i k w (e ∷ es) q =
+    by-test (wasHeard e)
+    (λ h. watch-read i (clockNext k (eventIn e)) (watched i k e w) es (q .1) ∙ ap (watchFrom i k w) (sym (keep-yes wasHeard e es h)))
+    (λ h.
+    let one = eqb-true (e .number) 1 (not-false (eqb (e .number) 1) h) in
+    let none-here = q .0 one in
+    ap₂ (λ (c : Clock) (o : Option Watch). watchFrom i c o es) (clock-one i k w e one none-here) (watched-one i k w e one none-here)
+    ∙ watch-read i k w es (q .1)
+    ∙ ap (watchFrom i k w) (sym (keep-no wasHeard e es h)))
 
 -- And of the last N(S) accepted from an address.
 last-heard : (a : ℕ) (es : List Exchange) → lastHeard a es ≡ lastHeard a (heardOf es)

@@ -12,6 +12,7 @@ use Rattle.llc_rule.proofs.Runs.Checks as Checks
 use Rattle.llc_rule.proofs.Runs.CheckBits as CheckBits
 use Rattle.llc_rule.proofs.Runs.Repeats as Repeats
 use Rattle.llc_rule.proofs.Runs.Announced as Announced
+use Rattle.llc_rule.proofs.Runs.Lost as Lost
 use Rattle.llc_rule.proofs.Instance as Instance
 
 returns : tie.Need-returns
@@ -87,6 +88,12 @@ returns c = record {
   announced-kinds = Announced.kinds-agrees;
   announced-unitdata = Announced.unitdata-agrees;
   announced-resent = Announced.resent-agrees;
+  lost-ages = Lost.ages-agrees;
+  lost-discarded = Lost.discarded-agrees;
+  lost-stands = Lost.stands-agrees;
+  lost-wraps = Lost.wraps-agrees;
+  lost-jumps = Lost.jumps-agrees;
+  lost-there-and-back = Lost.there-and-back-agrees;
   instance-agrees = Instance.instance-agrees;
   turned-agrees = Instance.turned-agrees;
 }
