@@ -14,11 +14,14 @@ use Rattle.llc_rule.specs.Messages.{Message, Place, placeAt}
 use Rattle.llc_rule.specs.Runs.{Exchange}
 use Rattle.llc_rule.specs.Past.{frees, doneTo}
 use Rattle.llc_rule.specs.Sendings.{sendings}
-use Rattle.llc_rule.specs.Lost.{tickEnded, ordered, reportedOn, eventIn, endsTick, reports, sends, endsHolding, clockAfter, reads, isHeld, LostAfterFour}
+use Rattle.llc_rule.specs.Lost.{tickEnded, ordered, reportedOn, eventIn, endsTick, reports, sends, endsHolding, clockAfter, reads, LeftAfterFour, isHeld, LostAfterFour}
 use Rattle.llc_rule.proofs.AppliedLost.{standsCalls, wrapsCalls, jumpsCalls, orderAt, requestAt, between, Left, marksOf}
 use Rattle.llc_rule.proofs.StatementsLost.{starts, orders, sendsIt, toEarly, toSooner, toOldReport, toUnreported, twice, byReport, three, four, five, seventh, heldMessage}
 use Rattle.llc_runs.specs.Claim.{receiptsAfter, messagesAfter}
-use Rattle.llc_runs.specs.Runs.{Lent, begin, run}
+use Rattle.llc_runs.specs.Runs.{Lent, begin, left, exchange, run}
+use Rattle.llc_runs.proofs.Instance.{zeroStore, lentFirst, lentSecond, openingLents}
+use Rattle.llc_runs.proofs.Applied.{askedAt}
+use Rattle.llc_runs.proofs.AppliedLost.{heldLents, lostLents}
 
 -- An order r that was accepted in a run, by the exchanges before it and those later.
 pub record Ordered (store : List ℕ) (cs : List Lent) (before : List Exchange) (e : Exchange) (later : List Exchange) (r : Request) : Type 0 where
@@ -123,6 +126,11 @@ pub record OrdersLost : Type 0 where
       → isHeld i (messagesAfter store before) ≡ false
       → reads Lost (placeAt (receiptsAfter store before) i) ≡ true
       → placeAt (receiptsAfter store (before ++ (c ∷ []))) i ≡ placeAt (receiptsAfter store before) i
+  -- Met by an order of the instance, in a run of the entry point.
+  pub reads-lost : reads Lost (placeAt (receiptsAfter zeroStore lostLents) 0x22) ≡ true
+  pub lost-lents :
+      LeftAfterFour 0x22 (run (begin zeroStore) (openingLents ++ (lentFirst ∷ [])) ++ (exchange askedAt lentSecond ∷ []))
+      (run (left askedAt lentSecond) heldLents) (placeAt (receiptsAfter zeroStore lostLents) 0x22)
   -- Met by orders of computed runs, where the clock stands, wraps and jumps.
   pub stands-lost : Left (take 2 standsCalls) (orderAt standsCalls 2) (between standsCalls 3 39) (requestAt standsCalls 2)
   pub wraps-lost : Left (take 2 wrapsCalls) (orderAt wrapsCalls 2) (between wrapsCalls 3 38) (requestAt wrapsCalls 2)

@@ -36,7 +36,7 @@ whose-put cs ds c e =
     ∙ ap (λ (x : List (List ℕ)). whoseAfter (Rule.run new x) (c .call)) e
 
 -- What is put to the link before the second of the two.
-first-put : putTo zeroStore (openingLents ++ (lentFirst ∷ [])) ≡ openingCalls ++ (askFirst ∷ [])
+pub first-put : putTo zeroStore (openingLents ++ (lentFirst ∷ [])) ≡ openingCalls ++ (askFirst ∷ [])
 unfolding lentFirst keep
 first-put =
     put-right zeroStore openingLents (lentFirst ∷ []) (askFirst ∷ []) right (fitting-yes lentFirst [] first-fits)
@@ -85,12 +85,12 @@ swap-turned-lents =
 abbrev pub askedAt : Station
 askedAt = after (begin zeroStore) (openingLents ++ (lentFirst ∷ []))
 
-asked-there : Asked askedAt lentSecond
+pub asked-there : Asked askedAt lentSecond
 asked-there =
     let ok = follows (begin zeroStore) (openingLents ++ (lentFirst ∷ [])) (begin-right zeroStore right) .sane in
     asks askedAt lentSecond ok (right-is askedAt lentSecond ok ∙ second-fits)
 
-asked-link : linkAt askedAt ≡ asked
+pub asked-link : linkAt askedAt ≡ asked
 asked-link = claim .asStep zeroStore (openingLents ++ (lentFirst ∷ [])) .link ∙ ap (Rule.after new) first-put
 
 accepted-there : exchange askedAt lentSecond .number ≡ 0

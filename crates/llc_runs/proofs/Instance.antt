@@ -38,13 +38,13 @@ are-bytes (b ∷ c) e =
 abbrev pub lendOne : List ℕ → (c : List ℕ) → isBytes c ≡ true → Lent
 lendOne out c e = record { call = c; bytes = are-bytes c e; out = out }
 
-unfoldable lend : List ℕ → (cs : List (List ℕ)) → all isBytes cs ≡ true → List Lent
+unfoldable pub lend : List ℕ → (cs : List (List ℕ)) → all isBytes cs ≡ true → List Lent
 unfolding all
 lend out [] e = []
 lend out (c ∷ cs) e =
     let t = both {x = isBytes c} {y = all isBytes cs} e in lendOne out c (t .0) ∷ lend out cs (t .1)
 
-lent-fit :
+pub lent-fit :
     (out : List ℕ) (cs : List (List ℕ)) (e : all isBytes cs ≡ true) → leb outputBytes (length out) ≡ true → fitting (lend out cs e) ≡ cs
 unfolding all lend keep
 lent-fit out [] e n = refl

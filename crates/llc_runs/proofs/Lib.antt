@@ -5,3 +5,4 @@ pub mod Settled
 pub mod Claim
 pub mod Instance
 pub mod Applied
+pub mod AppliedLost

@@ -31,7 +31,7 @@ abbrev pub Silent : Exchange → Type 0
 Silent e = e .number ≡ 1 → e .records ≡ []
 
 -- What a reading of exchanges that passes over those with number 1 gives of all, it gives of the others; with a Q of exchanges.
-read-heard :
+pub read-heard :
     {S X : Type 0} (Q : Exchange → Type 0) (f : S → List Exchange → X)
     → ((s : S) (e : Exchange) (es ds : List Exchange) → ((t : S) → f t es ≡ f t ds) → f s (e ∷ es) ≡ f s (e ∷ ds))
     → ((s : S) (e : Exchange) (es : List Exchange) → e .number ≡ 1 → Q e → f s (e ∷ es) ≡ f s es)

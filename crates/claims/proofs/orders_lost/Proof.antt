@@ -16,6 +16,7 @@ use Rattle.claims.specs.OrdersLost.{Ordered, Because, LastReport, place,
 use Rattle.claims.proofs.orders_lost.Statement.{statement}
 use Rattle.claims.proofs.orders_lost.Tie as tie
 use Rattle.llc_runs.proofs.Claim as Claim
+use Rattle.llc_runs.proofs.AppliedLost as LostLents
 use Rattle.llc_rule.proofs.AppliedLost as AppliedLost
 use Rattle.llc_rule.proofs.StatementsLost as StatementsLost
 
@@ -133,6 +134,8 @@ returns c = record {
   ofEach = of-order;
   released = λ store before c e i split. Claim.claim .runs store .settled before c e split .released i;
   stays = λ store before c e i split h u m. Claim.claim .runs store .settled before c e split .stays i h u (lost-read (placeAt (receiptsAfter store before) i) m);
+  reads-lost = LostLents.reads-lost;
+  lost-lents = LostLents.lost-lents;
   stands-lost = AppliedLost.stands-lost;
   wraps-lost = AppliedLost.wraps-lost;
   wraps-discarded = AppliedLost.wraps-discarded;
