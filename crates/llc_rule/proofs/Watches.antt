@@ -12,7 +12,7 @@ use Rattle.tdma_time.specs.declared.TdmaTime.{TdmaTime}
 use Rattle.tx_receipt.specs.declared.TxReceipt.{TxReceipt}
 use Rattle.tx_receipt.specs.declared.TxState.{TxState}
 use Rattle.tx_receipt.specs.declared.TxState.the-variants.{Pending, Discarded, Transmitted, Lost, Acknowledged}
-use Rattle.llc_rule.specs.Calls.{tickEnd, request, report, Request}
+use Rattle.llc_rule.specs.Calls.{Request}
 use Rattle.llc_rule.specs.Records.{Sent}
 use Rattle.llc_rule.specs.Messages.{overdue, Place, taken}
 use Rattle.llc_rule.specs.Runs.{Exchange}
