@@ -5,8 +5,8 @@
 pub enum TxState {
     /// The message is queued and not yet sent over the air.
     Pending,
-    /// The lower layer had to discard the message. The link may still send it again: only an accepted release tells the end, after four
-    /// times of which earlier ones may have been received.
+    /// The lower layer had to discard the message. The link may still send it again: only an accepted release tells the end. An
+    /// acknowledged message that ends so was handed down four times, and an earlier time may have been received.
     Discarded,
     /// The lower layer has sent the message over the air.
     Transmitted,

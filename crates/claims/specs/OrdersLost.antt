@@ -13,7 +13,7 @@ use Rattle.llc_rule.specs.Calls.{Request}
 use Rattle.llc_rule.specs.Messages.{Message, Place, placeAt}
 use Rattle.llc_rule.specs.Runs.{Exchange}
 use Rattle.llc_rule.specs.Past.{frees, doneTo}
-use Rattle.llc_rule.specs.Sendings.{sendings}
+use Rattle.llc_rule.specs.Sendings.{handed, sendings}
 use Rattle.llc_rule.specs.Lost.{tickEnded, ordered, reportedOn, eventIn, endsTick, reports, sends, endsHolding, clockAfter, reads, LeftAfterFour, isHeld, LostAfterFour}
 use Rattle.llc_rule.proofs.AppliedLost.{standsCalls, wrapsCalls, jumpsCalls, orderAt, requestAt, between, Left, marksOf}
 use Rattle.llc_rule.proofs.StatementsLost.{starts, orders, sendsIt, toEarly, toSooner, toOldReport, toUnreported, twice, byReport, three, four, five, seventh, heldMessage}
@@ -86,13 +86,13 @@ module _
           any (endsHolding (r .receipt)) later ≡ false
           → reads Acknowledged place || reads Lost place ≡ true
           → held ≡ false
-      -- Each sending is at a tick end, alone; each after the first has its reason.
+      -- Each sending is one record of a tick end; each after the first has its reason.
       pub sent :
           (since : List Exchange) (d : Exchange) (behind : List Exchange)
           → later ≡ since ++ (d ∷ behind)
           → any (endsHolding (r .receipt)) since ≡ false
           → sends (r .receipt) d ≡ true
-          → eventIn d ≡ tickEnded
+          → (eventIn d ≡ tickEnded) × (length (handed (r .receipt) (d .records)) ≡ 1)
       pub resent :
           (since : List Exchange) (d : Exchange) (behind : List Exchange)
           → later ≡ since ++ (d ∷ behind)

@@ -12,8 +12,7 @@ use Rattle.llc_rule.specs.Ranges.{steals}
 use Rattle.llc_rule.specs.Runs.{Exchange}
 use Rattle.llc_rule.specs.Past.{Holding, empties, takes, frees, stays, doneTo, about, aboutRead, Holders, isHolder, holder's, whoseOf, whose, concerns, leftOut, inPast, isTickEnd}
 use Rattle.llc_rule.specs.Sendings.{requestSpelled}
-use Rattle.llc_rule.specs.Lost as Lost
-use Rattle.llc_rule.specs.Lost.{Event, started, ticked, tickEnded, ordered, reportedOn, other, event, eventIn}
+use Rattle.llc_rule.specs.Lost.{Event, started, ticked, tickEnded, ordered, reportedOn, other, event, eventIn, isTickEnded}
 use Rattle.llc_rule.proofs.About.{takes-for}
 
 -- What an order takes.
@@ -106,8 +105,8 @@ pub record Ticking (e : Exchange) : Type 0 where
 abbrev IsTick : Outcome Call → Type 0
 IsTick o = (aboutRead o .toHolding ≡ stays) × (isTickEnd o ≡ true)
 
-not-ticking : {G : Type 0} (v : Event) → Lost.isTickEnd v ≡ false → v ≡ tickEnded → G
-not-ticking v n q = clash (ap Lost.isTickEnd q) n
+not-ticking : {G : Type 0} (v : Event) → isTickEnded v ≡ false → v ≡ tickEnded → G
+not-ticking v n q = clash (ap isTickEnded q) n
 
 spelled-tick : (o : Outcome Call) → event o ≡ tickEnded → IsTick o
 spelled-tick (refused n) q = not-ticking other refl q
@@ -115,7 +114,7 @@ spelled-tick (accepted (start carrier t251)) q = not-ticking (started t251) refl
 spelled-tick (accepted (tickStart time)) q = not-ticking (ticked time) refl q
 spelled-tick (accepted tickEnd) q = (refl, refl)
 spelled-tick (accepted (request tlData s)) q =
-    not-ticking (event (accepted (request tlData s))) (either (λ (v : Event). Lost.isTickEnd v ≡ false) (eqb (s .type) 1 && not (steals s)) refl refl) q
+    not-ticking (event (accepted (request tlData s))) (either (λ (v : Event). isTickEnded v ≡ false) (eqb (s .type) 1 && not (steals s)) refl refl) q
 spelled-tick (accepted (request tlUnitdata s)) q = not-ticking other refl q
 spelled-tick (accepted (frame f)) q = not-ticking other refl q
 spelled-tick (accepted (byReceipt i (report how))) q = not-ticking (reportedOn i how) refl q

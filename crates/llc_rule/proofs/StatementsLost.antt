@@ -21,7 +21,7 @@ use Rattle.llc_rule.specs.Messages.{Message, waiting, Place, free, taken
 use Rattle.llc_rule.specs.Runs.{Exchange}
 use Rattle.llc_rule.specs.Past.{about, doneTo}
 use Rattle.llc_rule.specs.Sendings.{handed, sendings}
-use Rattle.llc_rule.specs.Lost.{Event, started, ticked, tickEnded, ordered, reportedOn, other, eventIn, isTickEnd, isReport, endsTick, reports, sends, endsHolding, clockFrom, clockAfter, OldEnough, Reason, LeftAfterFour, isHeld, OrderTold, LostAfterFour}
+use Rattle.llc_rule.specs.Lost.{Event, started, ticked, tickEnded, ordered, reportedOn, other, eventIn, isTickEnded, isReport, endsTick, reports, sends, endsHolding, clockFrom, clockAfter, OldEnough, Reason, LeftAfterFour, isHeld, OrderTold, LostAfterFour}
 use Rattle.llc_rule.proofs.Runs.{hex, request, exchanges}
 
 -- A list at an element ------------------------------------------------------------------------------------------------------
@@ -124,7 +124,7 @@ determined i asked since r =
     is-report i how e v = ap (isReport i) v ∙ eq-eqb i i refl
 
     is-tick : (e : Exchange) → eventIn e ≡ tickEnded → endsTick e ≡ true
-    is-tick e v = ap isTickEnd v
+    is-tick e v = ap isTickEnded v
 
 -- Histories ---------------------------------------------------------------------------------------------------------------------
 
@@ -286,7 +286,7 @@ byReport = told (hex 5 0x2700020701) (acknowledged message ∷ []) ∷ []
 pub by-a-report-refused : (ps : List Place) (ms : List Message) → LostAfterFour (starts ∷ orders ∷ byReport) ps ms → ⊥
 unfolding any handed eventIn toBytes requestIn exchanges
 by-a-report-refused ps ms so =
-    let tick = told-of byReport ps ms so .sent [] (told (hex 5 0x2700020701) (acknowledged message ∷ [])) [] refl refl refl .tickEnd in false≢true (ap isTickEnd tick)
+    let tick = told-of byReport ps ms so .sent [] (told (hex 5 0x2700020701) (acknowledged message ∷ [])) [] refl refl refl .tickEnd in false≢true (ap isTickEnded tick)
 
 -- Five sendings.
 abbrev pub five : List Exchange

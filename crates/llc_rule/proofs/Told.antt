@@ -22,7 +22,7 @@ use Rattle.llc_rule.specs.Messages.{Message, reaches, overdue, Place, ta
 use Rattle.llc_rule.specs.Runs.{Exchange}
 use Rattle.llc_rule.specs.Past.{Holding, empties, takes, frees, stays, takenBy, doneTo}
 use Rattle.llc_rule.specs.Sendings.{ends, handed, sendings, AtMostFour, EachAtMostFour}
-use Rattle.llc_rule.specs.Lost.{Event, started, ticked, tickEnded, ordered, reportedOn, other, eventIn, isTickEnd, isReport, endsTick, reports, isAny, sends, endsHolding, Clock, clockNext, clockFrom, clockAfter, OldEnoughBy, OldEnough, LastSending, OneReport, FirstTickEnd, Reason, SentAt, reads, readsLostOrDiscarded, LeftAfterFour, isHeld, OrderTold, LostAfterFour}
+use Rattle.llc_rule.specs.Lost.{Event, started, ticked, tickEnded, ordered, reportedOn, other, eventIn, isTickEnded, isReport, endsTick, reports, isAny, sends, endsHolding, Clock, clockNext, clockFrom, clockAfter, OldEnoughBy, OldEnough, LastSending, OneReport, FirstTickEnd, Reason, SentAt, reads, readsLostOrDiscarded, LeftAfterFour, isHeld, OrderTold, LostAfterFour}
 use Rattle.llc_rule.proofs.Events.{ordered-takes, takesOnly, taking-event, request-takes}
 use Rattle.llc_rule.proofs.Watches.{Watch, asking, isOrder, aged, goesOn, ifAny, watched, watchFrom, Why, AllSentWell, GoodIn, Each, none-handed, Goes, goes, LeftBy, GoneAs, Ended, End}
 
@@ -347,7 +347,7 @@ module _
     plain-tale :
         (v : Event)
         → eventIn e ≡ v
-        → isTickEnd v ≡ false
+        → isTickEnded v ≡ false
         → isReport i v ≡ false
         → AllSentWell k w v (handed i (e .records))
         → TaleOf i asked since w
@@ -355,7 +355,7 @@ module _
     plain-tale v ev t r a tale =
         same-later i asked since e (w .over) (w .sent) (w .report) (w .noted)
         (record { sends = ap isAny (none-handed k w v (handed i (e .records)) t a); reports = ap (isReport i) ev ∙ r })
-        (ap isTickEnd ev ∙ t)
+        (ap isTickEnded ev ∙ t)
         tale
 
     -- A tick end.
@@ -686,7 +686,7 @@ module _
         -- The request is no tick end, and hands nothing down.
         asks-silently : (w : Option Watch) → GoodIn at (clockFrom atFirst before) w e → sends at e ≡ false
         asks-silently none good = ap isAny good
-        asks-silently (some w) good = ap isAny (none-handed (clockFrom atFirst before) w (eventIn e) (handed at (e .records)) (ap isTickEnd ev) (good .sent))
+        asks-silently (some w) good = ap isAny (none-handed (clockFrom atFirst before) w (eventIn e) (handed at (e .records)) (ap isTickEnded ev) (good .sent))
 
         order-told : OrderTold r before e later (placeAt ps at) (isHeld at ms)
         order-told =

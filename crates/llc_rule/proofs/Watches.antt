@@ -18,7 +18,7 @@ use Rattle.llc_rule.specs.Messages.{overdue, Place, taken}
 use Rattle.llc_rule.specs.Runs.{Exchange}
 use Rattle.llc_rule.specs.Past.{Holding, takes, takenBy, doneTo}
 use Rattle.llc_rule.specs.Sendings.{handed, AtMostFour}
-use Rattle.llc_rule.specs.Lost.{Event, started, ticked, tickEnded, ordered, reportedOn, other, eventIn, isTickEnd, isAny, Clock, clockNext, reads}
+use Rattle.llc_rule.specs.Lost.{Event, started, ticked, tickEnded, ordered, reportedOn, other, eventIn, isTickEnded, isAny, Clock, clockNext, reads}
 
 -- The reading -------------------------------------------------------------------------------------------------------------
 
@@ -149,9 +149,9 @@ first-fine i k w (e ∷ es) each = each .0
 -- What it keeps of a watch ----------------------------------------------------------------------------------------------------
 
 -- Nothing is handed down but at a tick end.
-pub none-handed : (k : Clock) (w : Watch) (v : Event) (ss : List Sent) → isTickEnd v ≡ false → AllSentWell k w v ss → ss ≡ []
+pub none-handed : (k : Clock) (w : Watch) (v : Event) (ss : List Sent) → isTickEnded v ≡ false → AllSentWell k w v ss → ss ≡ []
 none-handed k w v [] f a = refl
-none-handed k w v (s ∷ ss) f a = clash (ap isTickEnd (a .tickEnd)) f
+none-handed k w v (s ∷ ss) f a = clash (ap isTickEnded (a .tickEnd)) f
 
 -- Whose it is stays, and so does what was handed down, with what more is.
 pub record Goes (w v : Watch) (ss : List Sent) : Type 0 where
@@ -174,7 +174,7 @@ pub goes-ended : (i : ℕ) (k : Clock) (w : Watch) (ss : List Sent) → Goes w (
 goes-ended i k w [] = goes-aged k w (w .noted)
 goes-ended i k w (s ∷ ss) = record { request = refl; order = refl; sent = refl }
 
-goes-still : (k : Clock) (w : Watch) (v : Event) (ss : List Sent) → isTickEnd v ≡ false → AllSentWell k w v ss → Goes w w ss
+goes-still : (k : Clock) (w : Watch) (v : Event) (ss : List Sent) → isTickEnded v ≡ false → AllSentWell k w v ss → Goes w w ss
 goes-still k w v ss t a = subst (Goes w w) (sym (none-handed k w v ss t a)) (goes-same w)
 
 pub goes : (i : ℕ) (k : Clock) (w : Watch) (v : Event) (ss : List Sent) → AllSentWell k w v ss → Goes w (goesOn i k v ss w) ss

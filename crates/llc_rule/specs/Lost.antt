@@ -64,13 +64,13 @@ event (accepted (byReceipt i a)) = asReport i a
 unfoldable pub eventIn : Exchange → Event
 eventIn e = cond (eqb (e .number) 0) (event (parsed (e .call))) other
 
-abbrev pub isTickEnd : Event → Bool
-isTickEnd (started t251) = false
-isTickEnd (ticked time) = false
-isTickEnd tickEnded = true
-isTickEnd (ordered r) = false
-isTickEnd (reportedOn i how) = false
-isTickEnd other = false
+abbrev pub isTickEnded : Event → Bool
+isTickEnded (started t251) = false
+isTickEnded (ticked time) = false
+isTickEnded tickEnded = true
+isTickEnded (ordered r) = false
+isTickEnded (reportedOn i how) = false
+isTickEnded other = false
 
 abbrev pub isReport : ℕ → Event → Bool
 isReport i (started t251) = false
@@ -82,7 +82,7 @@ isReport i other = false
 
 -- Does an exchange end a tick, report on receipt i, or hand down with it? Does it end the holding of it?
 abbrev pub endsTick : Exchange → Bool
-endsTick e = isTickEnd (eventIn e)
+endsTick e = isTickEnded (eventIn e)
 
 abbrev pub reports : ℕ → Exchange → Bool
 reports i e = isReport i (eventIn e)
@@ -203,7 +203,7 @@ pub record LeftAfterFour (i : ℕ) (asked later : List Exchange) (p : Place) : T
   pub lost : reads Lost p ≡ eqb (reason .how) 1
   pub discarded : reads Discarded p ≡ eqb (reason .how) 2
 
--- Is a message with receipt i held?
+-- Is one with receipt i among the acknowledged messages that are held?
 abbrev pub isHeld : ℕ → List Message → Bool
 isHeld i ms = any (λ (m : Message). eqb (m .sent .receipt) i) ms
 
@@ -237,8 +237,8 @@ pub record LostAfterFour (es : List Exchange) (ps : List Place) (ms : List Messa
       → eventIn e ≡ ordered r
       → OrderTold r before e later (placeAt ps (r .receipt)) (isHeld (r .receipt) ms)
 
--- Of one exchange e more, by the receipts and messages before it and the receipts after it: a receipt is released only if no message
--- with it is held, and what a receipt reads once its message has left it reads until its holding ends.
+-- Of one exchange e more, by the receipts and acknowledged messages before it and the receipts after it: a receipt is released only if
+-- no acknowledged message with it is held, and what a receipt reads once its message has left it reads until its holding ends.
 pub record StaysSettled (e : Exchange) (ps : List Place) (ms : List Message) (qs : List Place) : Type 0 where
   pub released : (i : ℕ) → doneTo e ≡ frees i → isHeld i ms ≡ false
   pub stays :

@@ -111,7 +111,10 @@ of-order store cs before e later r o =
       four = λ h u m. t .left h u m .four;
       ended = t .ended;
       over = t .over;
-      sent = λ since d behind split h s. t .sent since d behind split h s .tickEnd;
+      sent =
+          λ since d behind split h s.
+          let k = t .sent since d behind split h s in
+          (k .tickEnd, k .once);
       resent =
           λ since d behind split h s again.
           because (r .receipt) (before ++ (e ∷ [])) since (t .sent since d behind split h s .again again);
