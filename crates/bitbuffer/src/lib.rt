@@ -14,7 +14,7 @@ use bits::within;
 
 /// A window over lent bits.
 #[repr(C)]
-#[derive(Drop)]
+#[derive(Clone, Copy)]
 pub struct BitBuffer {
     /// Bits before this are out of the window.
     pub start: usize,
@@ -27,21 +27,21 @@ pub struct BitBuffer {
 }
 
 /// A window, or that it would not lie inside the lent bytes (number 5).
-#[derive(Drop)]
+#[derive(Clone, Copy)]
 pub enum Windowed {
     To(BitBuffer),
     OutOfRange,
 }
 
 /// A number of bits, or that the window does not lie inside the lent bytes (number 5).
-#[derive(Drop)]
+#[derive(Clone, Copy)]
 pub enum Counted {
     Bits(usize),
     OutOfRange,
 }
 
 /// What a peek finds.
-#[derive(Drop)]
+#[derive(Clone, Copy)]
 pub enum Peeked {
     /// The number that the bits spell.
     Bits(u64),
@@ -52,7 +52,7 @@ pub enum Peeked {
 }
 
 /// What a read gives.
-#[derive(Drop)]
+#[derive(Clone, Copy)]
 pub enum Read {
     /// The number that the bits spell, and the window moved past them.
     Bits(u64, BitBuffer),
@@ -63,7 +63,7 @@ pub enum Read {
 }
 
 /// What a write gives.
-#[derive(Drop)]
+#[derive(Clone, Copy)]
 pub enum Written {
     /// The window moved past what was written.
     To(BitBuffer),
@@ -78,7 +78,7 @@ const LAST: usize = 18_446_744_073_709_551_615;
 
 /// The two windows of a copy, moved past the bits that were copied.
 #[repr(C)]
-#[derive(Drop)]
+#[derive(Clone, Copy)]
 pub struct Windows {
     /// The window that was written.
     pub to: BitBuffer,
@@ -87,7 +87,7 @@ pub struct Windows {
 }
 
 /// What a copy gives.
-#[derive(Drop)]
+#[derive(Clone, Copy)]
 pub enum Copied {
     /// Both windows moved past what was copied.
     To(Windows),

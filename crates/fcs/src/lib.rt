@@ -6,14 +6,14 @@ ghost use Rattle.fcs.specs.Register.{fed, Ruled};
 ghost use Rattle.fcs.specs.Answers.{summed, computed, checked, check};
 
 /// The check bits as a number, or that the bits asked for lie outside the part (number 5).
-#[derive(Drop)]
+#[derive(Clone, Copy)]
 pub enum Fcs {
     Sum(u32),
     OutOfRange,
 }
 
 /// Whether the last 32 bits are the check bits of those before them.
-#[derive(Drop)]
+#[derive(Clone, Copy)]
 pub enum Checked {
     /// They are.
     Right,

@@ -6,7 +6,7 @@ use crate::Line;
 use crate::writing::LINE_END;
 
 /// A line that has come so far.
-#[derive(Drop)]
+#[derive(Clone, Copy)]
 pub struct Gathered {
     pub line: Line,
     /// The place behind its last character or its line end.

@@ -7,7 +7,7 @@ pub use chunks::{Gathered, gather};
 pub use writing::{put_hex, put_line, put_number};
 
 /// How far the current line has come.
-#[derive(Drop)]
+#[derive(Clone, Copy)]
 pub struct Line {
     /// How many digits it has so far.
     pub digits: usize,
@@ -16,7 +16,7 @@ pub struct Line {
 }
 
 /// What a line says at its end.
-#[derive(Drop)]
+#[derive(Clone, Copy)]
 pub enum Finished {
     /// A call of so many bytes, the first ones of those gathered.
     Call(usize),

@@ -7,7 +7,7 @@ use bitbuffer::{BitBuffer, Copied, Counted, Peeked, Read, Windowed, Windows, Wri
 
 /// What a function on a window answers.
 #[repr(C)]
-#[derive(Drop)]
+#[derive(Clone, Copy)]
 pub struct WindowAnswer {
     /// Document 01's number, 0 where it is accepted.
     pub number: u8,
@@ -21,7 +21,7 @@ pub struct WindowAnswer {
 
 /// What a copy answers.
 #[repr(C)]
-#[derive(Drop)]
+#[derive(Clone, Copy)]
 pub struct CopyAnswer {
     /// Document 01's number, 0 where it is accepted.
     pub number: u8,

@@ -14,7 +14,7 @@ use llc_pdus::{LlcPduType, Pdu, Read, Sdu, TypeOf, Written};
 
 /// What reading a frame answers; past a refusal all is 0.
 #[repr(C)]
-#[derive(Drop)]
+#[derive(Clone, Copy)]
 pub struct FrameAnswer {
     /// Document 01's number, 0 where it is accepted.
     pub number: u8,

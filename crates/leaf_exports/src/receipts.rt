@@ -8,7 +8,7 @@ use tx_receipt::{Marked, TxReceipt, TxState};
 
 /// A number, and a receipt.
 #[repr(C)]
-#[derive(Drop)]
+#[derive(Clone, Copy)]
 pub struct ReceiptAnswer {
     /// Document 01's number, 0 where it is accepted.
     pub number: u8,

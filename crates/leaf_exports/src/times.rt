@@ -9,7 +9,7 @@ use tdma_time::{Counted, Moved, TdmaTime};
 
 /// A number, and a time.
 #[repr(C)]
-#[derive(Drop)]
+#[derive(Clone, Copy)]
 pub struct TimeAnswer {
     /// Document 01's number, 0 where it is accepted.
     pub number: u8,
@@ -19,7 +19,7 @@ pub struct TimeAnswer {
 
 /// A number, and slots.
 #[repr(C)]
-#[derive(Drop)]
+#[derive(Clone, Copy)]
 pub struct SlotsAnswer {
     /// Document 01's number, 0 where it is accepted.
     pub number: u8,

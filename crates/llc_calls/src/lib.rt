@@ -8,7 +8,7 @@ pub use ranges::in_range;
 use tdma_time::TdmaTime;
 
 /// A data or unitdata request, and where its block and its SDU lie in its call.
-#[derive(Drop)]
+#[derive(Clone, Copy)]
 pub struct RequestCall {
     /// The address, of 24 bits.
     pub ssi: u32,
@@ -41,7 +41,7 @@ pub struct RequestCall {
 }
 
 /// A frame, and where its block and its PDU lie in its call.
-#[derive(Drop)]
+#[derive(Clone, Copy)]
 pub struct FrameCall {
     /// The address, of 24 bits.
     pub ssi: u32,
@@ -64,7 +64,7 @@ pub struct FrameCall {
 }
 
 /// The service that a request asks for.
-#[derive(Drop)]
+#[derive(Clone, Copy)]
 pub enum Service {
     /// A data request.
     TlData,
@@ -73,7 +73,7 @@ pub enum Service {
 }
 
 /// What a call does by receipt.
-#[derive(Drop)]
+#[derive(Clone, Copy)]
 pub enum Action {
     /// A report: 1 for transmitted or 2 for discarded.
     Report(u8),
@@ -82,7 +82,7 @@ pub enum Action {
 }
 
 /// What taking a call apart gives.
-#[derive(Drop)]
+#[derive(Clone, Copy)]
 pub enum Decoded {
     /// The main carrier and T251.
     Start(u16, u16),

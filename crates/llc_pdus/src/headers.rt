@@ -9,14 +9,14 @@ use crate::Pdu;
 use bits::within;
 
 // What reading a header gives: the PDU that it is, or the number of the first question failed.
-#[derive(Drop)]
+#[derive(Clone, Copy)]
 pub(crate) enum Head {
     Of(Pdu),
     Refused(u8),
 }
 
 // Where a header ends: the byte that holds its last bit, and how many bits of that byte are the header's.
-#[derive(Drop)]
+#[derive(Clone, Copy)]
 pub(crate) struct HeaderEnd {
     pub byte: usize,
     pub bits: usize,

@@ -9,7 +9,7 @@ pub use reading::{from_bitbuf, sdu_bytes};
 pub use writing::{N251_BL_MAX_TLSDU_LEN_BITS, to_bitbuf};
 
 /// A basic link PDU without its SDU.
-#[derive(Drop)]
+#[derive(Clone, Copy)]
 pub enum Pdu {
     /// Clause 21.2.2.2: data, with an acknowledgement.
     BlAdata { has_fcs: bool, nr: bool, ns: bool },
@@ -22,7 +22,7 @@ pub enum Pdu {
 }
 
 /// Where an SDU lies in a frame.
-#[derive(Drop)]
+#[derive(Clone, Copy)]
 pub struct Sdu {
     /// Its first bit's place in the frame.
     pub first: usize,
@@ -33,7 +33,7 @@ pub struct Sdu {
 }
 
 /// What reading a frame gives.
-#[derive(Drop)]
+#[derive(Clone, Copy)]
 pub enum Read {
     /// A PDU, and where its SDU lies.
     Frame(Pdu, Sdu),
@@ -42,7 +42,7 @@ pub enum Read {
 }
 
 /// What writing a frame gives.
-#[derive(Drop)]
+#[derive(Clone, Copy)]
 pub enum Written {
     /// The frame's length in bits.
     Bits(usize),

@@ -3,7 +3,7 @@ ghost use Rattle.std.specs.Prelude.{◌≡◌};
 ghost use Rattle.llc_pdus.specs.Types.{raw, from_raw, typed};
 
 /// The type of an LLC PDU, four bits.
-#[derive(Drop)]
+#[derive(Clone, Copy)]
 pub enum LlcPduType {
     BlAdata,
     BlData,
@@ -24,7 +24,7 @@ pub enum LlcPduType {
 }
 
 /// The type with a number, if there is one.
-#[derive(Drop)]
+#[derive(Clone, Copy)]
 pub enum TypeOf {
     /// The type.
     Type(LlcPduType),

@@ -6,7 +6,7 @@ ghost use Rattle.llc_received.specs.Numbers.{ns_in, nr_in};
 use llc_pdus::Pdu;
 
 /// The sequence numbers of a PDU.
-#[derive(Drop)]
+#[derive(Clone, Copy)]
 pub struct SeqNumbers {
     /// Is there an N(S)?
     pub has_ns: bool,

@@ -5,7 +5,7 @@ mod records;
 pub use records::{put_indication, put_reply, put_sent};
 
 /// A message as it is handed down, without its block and its PDU.
-#[derive(Drop)]
+#[derive(Clone, Copy)]
 pub struct SentRecord {
     /// The address, of which three bytes are written.
     pub ssi: u32,
@@ -30,7 +30,7 @@ pub struct SentRecord {
 }
 
 /// What a received frame sends up, without its block and its SDU.
-#[derive(Drop)]
+#[derive(Clone, Copy)]
 pub struct IndicationRecord {
     /// The address, of which three bytes are written.
     pub ssi: u32,
@@ -45,7 +45,7 @@ pub struct IndicationRecord {
 }
 
 /// An acknowledgement reply as it is handed down: its PDU is a BL-ACK without FCS flag.
-#[derive(Drop)]
+#[derive(Clone, Copy)]
 pub struct ReplyRecord {
     /// The address, of which three bytes are written.
     pub ssi: u32,

@@ -15,7 +15,7 @@ pub const PLACE_BYTES: usize = 336;
 
 /// What is handed down of a message, but for its frame.
 #[repr(C)]
-#[derive(Drop)]
+#[derive(Clone, Copy)]
 pub struct TmaUnitdataReq {
     /// Address to which it is sent.
     pub ssi: u32,
@@ -45,7 +45,7 @@ pub struct TmaUnitdataReq {
 
 /// Where a frame's bits lie in the store.
 #[repr(C)]
-#[derive(Drop)]
+#[derive(Clone, Copy)]
 pub struct FramePlace {
     /// Which of the places of the store its frame has.
     pub place: usize,
@@ -55,7 +55,7 @@ pub struct FramePlace {
 
 /// How far a message has come.
 #[repr(C)]
-#[derive(Drop)]
+#[derive(Clone, Copy)]
 pub struct Progress {
     /// Expected acknowledgement sequence number.
     pub ns: bool,
@@ -71,7 +71,7 @@ pub struct Progress {
 
 /// A message that the link holds.
 #[repr(C)]
-#[derive(Drop)]
+#[derive(Clone, Copy)]
 pub struct Entry {
     /// What of it is handed down.
     pub sent: TmaUnitdataReq,
@@ -83,7 +83,7 @@ pub struct Entry {
 
 /// An acknowledgement that is due.
 #[repr(C)]
-#[derive(Drop)]
+#[derive(Clone, Copy)]
 pub struct ScheduledOutAck {
     /// Address from which the original message came.
     pub ssi: u32,
@@ -99,7 +99,7 @@ pub struct ScheduledOutAck {
 
 /// The place of a receipt: the receipt, if it is taken.
 #[repr(C)]
-#[derive(Drop)]
+#[derive(Clone, Copy)]
 pub struct ReceiptPlace {
     /// Does a request hold it?
     pub taken: bool,
@@ -111,7 +111,7 @@ pub struct ReceiptPlace {
 
 /// An address row: the send sequence variable of an SSI, and the last N(S) accepted from it.
 #[repr(C)]
-#[derive(Drop)]
+#[derive(Clone, Copy)]
 pub struct LinkSendSeq {
     /// The address.
     pub ssi: u32,
@@ -125,7 +125,7 @@ pub struct LinkSendSeq {
 
 /// The link. The counts stand together, in front of the arrays.
 #[repr(C)]
-#[derive(Drop)]
+#[derive(Clone, Copy)]
 pub struct State {
     /// Was there a start?
     pub started: bool,

@@ -6,7 +6,7 @@ ghost use Rattle.tx_receipt.specs.Marks.{acknowledged, lost, reset, marked};
 use tx_receipt::{TxReceipt, lent};
 
 // What a mark answered, and the receipt that was lent.
-#[derive(Drop)]
+#[derive(Clone, Copy)]
 pub(crate) struct MarkAnswer {
     pub(crate) number: u8,
     pub(crate) receipt: TxReceipt,

@@ -6,7 +6,7 @@ use llc_state::State;
 
 /// What a call gives: its number, the next state, and how many bytes of the output are its records.
 #[repr(C)]
-#[derive(Drop)]
+#[derive(Clone, Copy)]
 pub struct Answer {
     /// The state after the call.
     pub state: State,

@@ -10,7 +10,7 @@ pub use four_passes::tick_end;
 use llc_state::State;
 
 // A state after a pass, and the place behind what the pass wrote.
-#[derive(Drop)]
+#[derive(Clone, Copy)]
 struct Passed {
     state: State,
     at: usize,

@@ -12,7 +12,7 @@ use llc_state::State;
 const NO_CALL: u8 = 2;
 
 // What a line leaves.
-#[derive(Drop)]
+#[derive(Clone, Copy)]
 pub(crate) struct Answered {
     pub state: State,
     // The place behind the text that waits.

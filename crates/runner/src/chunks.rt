@@ -7,7 +7,7 @@ use hex_lines::{Line, gather};
 use llc_state::State;
 
 // What is under way between two chunks.
-#[derive(Drop)]
+#[derive(Clone, Copy)]
 pub(crate) struct Progress {
     pub state: State,
     pub line: Line,

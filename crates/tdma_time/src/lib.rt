@@ -7,7 +7,7 @@ ghost use Rattle.tdma_time.specs.Answers.{moved, counted, counted_from, added, d
 
 /// A slot, by its place in the frame, the multiframe and the hyperframe.
 #[repr(C)]
-#[derive(Drop)]
+#[derive(Clone, Copy)]
 pub struct TdmaTime {
     /// Timeslot, from 1 to 4
     pub t: u8,
@@ -20,14 +20,14 @@ pub struct TdmaTime {
 }
 
 /// A time, or that what was given is out of range (number 5).
-#[derive(Drop)]
+#[derive(Clone, Copy)]
 pub enum Moved {
     To(TdmaTime),
     OutOfRange,
 }
 
 /// A number of slots, or that a time given is out of range (number 5).
-#[derive(Drop)]
+#[derive(Clone, Copy)]
 pub enum Counted {
     Slots(i32),
     OutOfRange,

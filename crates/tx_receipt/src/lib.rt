@@ -8,7 +8,7 @@ ghost use Rattle.tx_receipt.specs.Marks.{Mark, transmitted, discarded, acknowled
 pub mod lent;
 
 /// How far the message of a receipt has come.
-#[derive(Drop)]
+#[derive(Clone, Copy)]
 pub enum TxState {
     /// The message is queued and not yet sent over the air.
     Pending,
@@ -23,7 +23,7 @@ pub enum TxState {
 }
 
 /// A transmit receipt.
-#[derive(Drop)]
+#[derive(Clone, Copy)]
 pub struct TxReceipt {
     /// Is an acknowledgement expected?
     pub expects_ack: bool,
@@ -32,7 +32,7 @@ pub struct TxReceipt {
 }
 
 /// The receipt after a mark, or as it was before a mark that is refused.
-#[derive(Drop)]
+#[derive(Clone, Copy)]
 pub enum Marked {
     /// The mark is made.
     Made(TxReceipt),
