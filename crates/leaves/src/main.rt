@@ -1,5 +1,7 @@
 // Shows the leaves at work: document 01's examples on slot time, frames and the check sequence, outside vectors, the types of
 // PDUs, and every mark on every receipt.
+#![tactic(auto)]
+
 mod frames;
 mod receipts;
 mod sums;

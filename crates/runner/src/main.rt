@@ -1,5 +1,7 @@
 // Runs the link on calls: each line of standard input is a call in hexadecimal digits; its number and its records go to
 // standard output as lines.
+#![tactic(auto)]
+
 mod answers;
 mod buffers;
 mod chunks;

@@ -1,0 +1,9 @@
+use Rattle.lists.proofs.Writes.{◌⨾◌, same_bytes}
+use Rattle.llc_records.proofs.Parts.{number_is}
+use Rattle.llc_records.proofs.fields.put_number.Goals as goal
+
+pub returns : goal.returns
+returns c =
+    let a = c.args in
+    same_bytes (number_is a.tag a.n a.v)
+    (c.put_byte-p.ensures ⨾ (c.put_bytes-p.ensures ⨾ c.put_bytes.ensures))
