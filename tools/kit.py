@@ -1,11 +1,17 @@
 """What the scripts of this repository know of its crates and of the Rattle kit."""
 
+import hashlib
 import os
 import re
 import subprocess
+import tempfile
+import time
 
 TOP = os.path.dirname(os.path.dirname(os.path.abspath(__file__)))
 PARTS = ("src", "specs", "proofs")
+# What the prover said on this machine, by the checksum of all that it was said of, and for how many days it stays unasked for.
+KEPT = os.path.join(os.environ.get("XDG_CACHE_HOME") or os.path.expanduser("~/.cache"), "wipturay")
+DAYS = 30
 
 
 def kit():
@@ -18,7 +24,7 @@ class Crates:
     """The crates of a checkout, by its crates.txt."""
 
     def __init__(self, top=TOP):
-        self.top, self.kit, self.uses, self.static = top, kit(), {}, set()
+        self.top, self.kit, self.uses, self.static, self.sums = top, kit(), {}, set(), {}
         with open(f"{top}/crates.txt", encoding="utf-8") as file:
             for line in file:
                 found = re.match(r"\s*(\w+)(\s+staticlib)?\s*(?::|$)(.*)", line.partition("#")[0])
@@ -72,3 +78,49 @@ class Crates:
         below = self.below(name)
         stamps = [it for it in below if os.path.exists(f"{os.path.dirname(self.rlib(it))}/stamp")]
         return not stamps and all(self.is_later(self.rlib(it), it, *self.below(it)) for it in below)
+
+    def key(self, name, *more):
+        """The sum of all that a check of the crate stands on: the prover, the crate's files and those of the crates below it, and what else is given."""
+        prover = os.stat(f"{self.kit}/bin/rattle")
+        with open(f"{self.kit}/KIT-ID", encoding="utf-8") as file:
+            found = [prover.st_size, prover.st_mtime_ns, file.read(), more]
+        for one in [*self.below(name), name]:
+            found.append((one, one in self.static, self.uses[one], self.texts(one)))
+        return hashlib.sha256(repr(found).encode()).hexdigest()
+
+    def texts(self, name):
+        """A sum of the crate's files."""
+        if name not in self.sums:
+            sum = hashlib.sha256()
+            for part in PARTS:
+                for at, below, files in os.walk(f"{self.folder(name)}/{part}"):
+                    below.sort()
+                    for file in sorted(files):
+                        with open(f"{at}/{file}", "rb") as it:
+                            sum.update(repr((os.path.relpath(f"{at}/{file}", self.folder(name)), it.read())).encode())
+            self.sums[name] = sum.hexdigest()
+        return self.sums[name]
+
+
+def said_of(key):
+    """What is kept under the key, or None."""
+    try:
+        os.utime(f"{KEPT}/{key}")
+        with open(f"{KEPT}/{key}", encoding="utf-8") as file:
+            return file.read()
+    except OSError:
+        return None
+
+
+def keep(key, said):
+    """Keeps what was said, and removes what was long not asked for."""
+    try:
+        os.makedirs(KEPT, exist_ok=True)
+        with tempfile.NamedTemporaryFile("w", dir=KEPT, delete=False, encoding="utf-8") as file:
+            file.write(said)
+        os.replace(file.name, f"{KEPT}/{key}")
+        for it in os.scandir(KEPT):
+            if time.time() - it.stat().st_mtime > DAYS * 86_400:
+                os.remove(it.path)
+    except OSError:
+        pass
