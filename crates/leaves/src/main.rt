@@ -9,10 +9,11 @@ mod text;
 mod times;
 mod types;
 
-fn main() {
-    times::show();
-    sums::show();
-    types::show();
-    frames::show();
-    receipts::show();
+fn main(rt: HostRuntime) {
+    let to = rt.stdout();
+    times::show(to);
+    sums::show(to);
+    types::show(to);
+    frames::show(to);
+    receipts::show(to);
 }

@@ -8,11 +8,19 @@ mod chunks;
 mod input;
 mod output;
 
-fn main() {
-    let mut chunk = io::large_buffer();
+fn main(rt: HostRuntime) {
+    let mut chunk = buffers::chunk();
     let mut bytes = buffers::bytes();
     let mut store = buffers::store();
     let mut out = buffers::out();
     let mut text = buffers::text();
-    input::run(&mut chunk, &mut bytes, &mut store, &mut out, &mut text);
+    input::run(
+        rt.stdin(),
+        rt.stdout(),
+        &mut chunk,
+        &mut bytes,
+        &mut store,
+        &mut out,
+        &mut text,
+    );
 }

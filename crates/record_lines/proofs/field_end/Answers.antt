@@ -1,4 +1,4 @@
-use native.Mathlib.Omega.{arith}
+use Rattle.std.proofs.Common.{arith}
 use Rattle.record_lines.proofs.Cuts.{value_there}
 use Rattle.record_lines.proofs.field_end.Goals as goal
 

@@ -1,5 +1,4 @@
-use Prim.Native.Nat.{◌-◌}
-use native.Mathlib.Omega.{arith}
+use Rattle.std.proofs.Common.{arith}
 use Rattle.record_lines.proofs.Cuts.{first_field, next_field, next-record, last-record}
 use Rattle.record_lines.proofs.record_end.Goals as goal
 
@@ -14,8 +13,8 @@ returns-then-records-i-eq-KIND c =
 
 pub loop-i-preserved : goal.loop-i-preserved
 loop-i-preserved c =
-    next_field c.field_end-i-in-loop-i.result c.loop-i.invariant (omega arith) (omega arith) c.if-records-i-eq-KIND.false c.field_end-i-in-loop-i.ensures
+    next_field c.field_end-i-in-loop-i.result c.loop-i.invariant (omega arith) (omega arith) c.if-records-i-eq-KIND.false
+    c.field_end-i-in-loop-i.ensures
 
 pub returns : goal.returns
-returns c =
-    last-record c.loop-i.invariant (omega arith)
+returns c = last-record c.loop-i.invariant (omega arith)

@@ -1,4 +1,4 @@
-use Prim.Native.Nat.{◌-◌}
+use Rattle.std.proofs.Common.{◌-◌}
 use Rattle.record_lines.proofs.Cuts.{Under}
 use Rattle.record_lines.proofs.record_end.Given as goal
 

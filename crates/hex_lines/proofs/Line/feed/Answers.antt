@@ -9,19 +9,16 @@ returns-then-v-ge16 c =
 pub returns-then-n-ge-MOST : goal.returns-then-n-ge-MOST
 returns-then-n-ge-MOST c =
     let a = c.args in
-    let v = c.value-v in
-    fed-over a.self a.buf.now a.c v.result (valued a.c v.ensures c.if-v-ge16.false) c.if-n-ge-MOST.true
+    fed-over a.self a.buf.now a.c c.value-v.result (valued a.c c.value-v.ensures c.if-v-ge16.false) c.if-n-ge-MOST.true
 
 pub returns-then-buf-k : goal.returns-then-buf-k
 returns-then-buf-k c =
     let a = c.args in
-    let v = c.value-v in
-    fed-full a.self a.buf.now a.c v.result (valued a.c v.ensures c.if-v-ge16.false) c.if-n-ge-MOST.false
+    fed-full a.self a.buf.now a.c c.value-v.result (valued a.c c.value-v.ensures c.if-v-ge16.false) c.if-n-ge-MOST.false
     c.if-buf-k.true
 
 pub returns : goal.returns
 returns c =
     let a = c.args in
-    let v = c.value-v in
-    fed-digit a.self a.buf.now a.c v.result (valued a.c v.ensures c.if-v-ge16.false)
-    c.if-n-ge-MOST.false c.if-buf-k.false
+    fed-digit a.self a.buf.now a.c c.value-v.result (valued a.c c.value-v.ensures c.if-v-ge16.false) c.if-n-ge-MOST.false
+    c.if-buf-k.false

@@ -3,10 +3,8 @@ use Rattle.hex_lines.proofs.Line.finished.Goals as goal
 
 pub returns-then-self : goal.returns-then-self
 unfolding finished_of
-returns-then-self c =
-    rw c.if-self.true
+returns-then-self c = rw c.if-self.true
 
 pub returns : goal.returns
 unfolding finished_of
-returns c =
-    rw c.if-self.false
+returns c = rw c.if-self.false

@@ -3,9 +3,7 @@ use Rattle.hex_lines.proofs.Writes.{one-digit, two_digits, three-digits}
 use Rattle.hex_lines.proofs.writing.put_number.Goals as goal
 
 pub returns-then-n-lt10 : goal.returns-then-n-lt10
-returns-then-n-lt10 c =
-    rw (one-digit c.args.n c.if-n-lt10.true)
-    (c.put-p.ensures ⨾ c.put.ensures)
+returns-then-n-lt10 c = rw (one-digit c.args.n c.if-n-lt10.true) (c.put-p.ensures ⨾ c.put.ensures)
 
 pub returns-then-n-lt100 : goal.returns-then-n-lt100
 returns-then-n-lt100 c =
