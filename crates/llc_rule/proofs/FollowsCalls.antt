@@ -774,7 +774,7 @@ unfolding run
 each-run i h l k w [] sound holder a = a.fine
 each-run i h l k w (c ∷ cs) sound holder a =
     let s = next-step h l sound i k w holder a c in
-    (a.fine, (s.good, each-run i _ (left l (step l c)) _ _ cs (sound-step h l c sound) (holder-next i k h w (exchange c (step l c)) holder) s.at))
+    (a.fine, (s.good, each-run i (holders (exchange c (step l c)) h) (left l (step l c)) _ _ cs (sound-step h l c sound) (holder-next i k h w (exchange c (step l c)) holder) s.at))
 
 pub at-end :
     (i : ℕ) (h : Holders) (l : Link) (k : Clock) (w : Option Watch) (cs : List (List ℕ))
@@ -786,7 +786,7 @@ unfolding run after clock_from watch_from
 at-end i h l k w [] sound holder a = a
 at-end i h l k w (c ∷ cs) sound holder a =
     let s = next-step h l sound i k w holder a c in
-    at-end i _ (left l (step l c)) _ _ cs (sound-step h l c sound) (holder-next i k h w (exchange c (step l c)) holder) s.at
+    at-end i (holders (exchange c (step l c)) h) (left l (step l c)) _ _ cs (sound-step h l c sound) (holder-next i k h w (exchange c (step l c)) holder) s.at
 
 pub at_first : (i : ℕ) → At i at_outset none new
 unfolding new keep

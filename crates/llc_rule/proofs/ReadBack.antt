@@ -27,7 +27,7 @@ use Rattle.llc_rule.specs.Keeps.{with_receipts}
 use Rattle.llc_rule.specs.Link.{Link, bit_of, new, started_with}
 use Rattle.llc_rule.specs.Step.{due_for, data_pdu, with_acknowledged, with_unacknowledged, numbered, sent_up, held, retransmissions, first_sendings, on_tick_end, step}
 use Rattle.llc_rule.specs.Runs.{left, given, Exchange, exchange, run}
-use Rattle.llc_rule.specs.Past.{nobody, holding, Holding, about_call, done_to, Holders}
+use Rattle.llc_rule.specs.Past.{nobody, holding, holders, Holding, about_call, done_to, Holders}
 use Rattle.llc_rule.specs.ReadBack.{Requests, requests_then, requests_from, flag_in, ReadAs, Carries, ReadBack, AllReadBack}
 use Rattle.llc_rule.specs.Sound.{Owned, Sound}
 use Rattle.llc_rule.proofs.Paths.{Acknowledged, Unacknowledged, Heard, after_heard, Paths, sent-up, step-law}
@@ -236,7 +236,7 @@ unfolding run
 read-from hs h l [] sound a = tt
 read-from hs h l (c ∷ cs) sound a =
     let n = next-step hs h l sound a c in
-    (n.records, read-from _ _ (left l (step l c)) cs (sound-step hs l c sound) n.carry)
+    (n.records, read-from (holders (exchange c (step l c)) hs) (requests_then (done_to (exchange c (step l c))) h) (left l (step l c)) cs (sound-step hs l c sound) n.carry)
 
 new-carries : AllCarry nobody new
 unfolding new

@@ -472,9 +472,9 @@ unfolding indication_bytes to_bytes
 length-indication k i =
     rw (length-append i.block _, length-counted_if_any i.sdu) (omega arith)
 
-mask_size : (m : Option ℕ) → mask_size m ≤ 4
-mask_size none = omega arith
-mask_size (some m) = omega arith
+mask-size : (m : Option ℕ) → mask_size m ≤ 4
+mask-size none = omega arith
+mask-size (some m) = omega arith
 
 size-if-any : (l : List ℕ) → size_if_any l ≤ 5 + (length l + 7) / 8
 size-if-any [] = omega arith
@@ -487,7 +487,7 @@ most_sent = 60 + 64 + (longest_sent + 7) / 8
 pub small-sent : (k : ℕ) (s : Sent) → SmallSent s → length (sent_bytes k s) ≤ most_sent
 small-sent k s h =
     let n = length-sent k s in
-    let m = mask_size s.mask in
+    let m = mask-size s.mask in
     omega (arith, h.block, h.pdu)
 
 -- And a reply with the five bits of a BL-ACK: its fields with a mask, and one byte.
@@ -497,7 +497,7 @@ most_reply = 53 + 1
 pub small-reply : (r : Reply) → length r.pdu ≡ 5 → length (reply_bytes r) ≤ most_reply
 small-reply r h =
     let n = length-reply r in
-    let m = mask_size r.mask in
+    let m = mask-size r.mask in
     omega arith
 
 -- How many bytes it takes at most what goes up of a frame in range.

@@ -55,7 +55,7 @@ less-fits a b ha hb =
 
 -- An i32 read back from its bits.
 pub same-i32 : (z : ℤ) → mag z < 2 ^ 31 → to_z w32 (of_z w32 z) ≡ z
-same-i32 z h = to_z-of_z (record { sfits = h })
+same-i32 z h = to_z-of_z {w = w32} (record { sfits = h })
 
 pub widen : {n : ℤ} → SFits w32 n → SFits w64 n
 widen f = record { sfits = omega (arith, f.sfits) }

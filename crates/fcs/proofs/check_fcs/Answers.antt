@@ -9,17 +9,6 @@ use Rattle.fcs.specs.Answers.{check}
 use Rattle.fcs.proofs.Computed.{in-range, compared}
 use Rattle.fcs.proofs.check_fcs.Goals as goal
 
--- Where the two sums have been read: the definition compares them.
-asked : (c : goal.After-word_at)
-    → let args = c.args in
-    check (bits args.part.now) args.at args.len ≡ ask 12 (eqb c.sum_of.result c.word_at.result) (accepted tt)
-asked c =
-    let args = c.args in
-    let sum = c.sum_of in
-    let word = c.word_at in
-    let h = passed c.inside.ensures c.if-not-inside.false-raw in
-    compared (bits args.part.now) args.at args.len sum.result word.result h c.if-len-lt-FCS_BITS.false sum.ensures word.ensures
-
 pub returns-then-not-inside : goal.returns-then-not-inside
 returns-then-not-inside c =
     rw (failed c.inside.ensures c.if-not-inside.true-raw)
@@ -44,8 +33,10 @@ word_at-requires c =
 
 pub returns-then-sum_of-word_at : goal.returns-then-sum_of-word_at
 returns-then-sum_of-word_at c =
-    sym (asked c.before ∙ rw (eq-eqb c.sum_of.result c.word_at.result c.if-sum_of-word_at.true))
+    sym (compared (bits c.args.part.now) c.args.at c.args.len c.sum_of.result c.word_at.result (passed c.inside.ensures c.if-not-inside.false-raw) c.if-len-lt-FCS_BITS.false c.sum_of.ensures c.word_at.ensures
+    ∙ rw (eq-eqb c.sum_of.result c.word_at.result c.if-sum_of-word_at.true))
 
 pub returns-else-sum_of-word_at : goal.returns-else-sum_of-word_at
 returns-else-sum_of-word_at c =
-    sym (asked c.before ∙ rw (ne_eqb c.sum_of.result c.word_at.result c.if-sum_of-word_at.false))
+    sym (compared (bits c.args.part.now) c.args.at c.args.len c.sum_of.result c.word_at.result (passed c.inside.ensures c.if-not-inside.false-raw) c.if-len-lt-FCS_BITS.false c.sum_of.ensures c.word_at.ensures
+    ∙ rw (ne_eqb c.sum_of.result c.word_at.result c.if-sum_of-word_at.false))

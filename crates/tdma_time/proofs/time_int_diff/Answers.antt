@@ -10,6 +10,6 @@ use Rattle.tdma_time.proofs.time_int_diff.Goals as goal
 pub returns : goal.returns
 unfolding centred
 returns c =
-    same-i32 c.lowered.result c.lowered.type-inv
+    same-i32 c.lowered.result c.lowered.type_inv
     ∙ c.lowered.ensures
     ∙ ap (λ (u : ℕ). pos u -ℤ pos half) (sym (modulo-centred c.args.a c.args.b (omega arith)))

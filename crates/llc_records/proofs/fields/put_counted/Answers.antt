@@ -3,8 +3,20 @@ use mathlib.Core.Path.{◌≡◌}
 use lib.ListN.{length}
 use Rattle.lists.proofs.Writes.{◌⨾◌, same_bytes}
 use Rattle.bits.specs.Bits.{bits, part}
+use Rattle.llc_rule.specs.Calls.{to_bytes}
+use borrow.Author.Rules.{rules}
 use Rattle.llc_records.proofs.Parts.{bits-long, counted_is}
 use Rattle.llc_records.proofs.fields.put_counted.Goals as goal
+
+pub put_bytes-p-requires-2 : goal.put_bytes-p-requires-2
+unfolding to_bytes
+put_bytes-p-requires-2 c =
+    search rules
+
+pub put_packed-requires : goal.put_packed-requires
+unfolding to_bytes
+put_packed-requires c =
+    search rules
 
 pub returns : goal.returns
 returns c =

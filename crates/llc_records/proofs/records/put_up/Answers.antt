@@ -2,7 +2,13 @@ use native.Mathlib.Omega.{arith}
 use Rattle.lists.proofs.Writes.{◌⨾◌}
 use Rattle.bits.proofs.Laws.{length_part}
 use Rattle.llc_rule.specs.Calls.{to_bytes}
+use borrow.Author.Rules.{rules}
 use Rattle.llc_records.proofs.records.put_up.Goals as goal
+
+pub put_block-p-requires : goal.put_block-p-requires
+unfolding to_bytes
+put_block-p-requires c =
+    search rules
 
 pub put_flag-p-requires : goal.put_flag-p-requires
 unfolding to_bytes

@@ -1,40 +1,31 @@
-use native.Mathlib.Omega.{arith}
-use mathlib.Core.Path.{◌≡◌, ◌∙◌, sym}
-use mathlib.Core.Bool.{true}
-use borrow.Author.Tests.{not-true, not-false}
+use mathlib.Core.Path.{◌∙◌, sym}
 use lib.Seq.{take_all}
-use Rattle.llc_state.specs.Ranges.{head_in_range, state_in_range}
-use Rattle.llc_state.proofs.InRange.{Head, head-tells}
+use native.Mathlib.Omega.{arith}
+use Rattle.llc_state.specs.Ranges.{state_in_range}
+use Rattle.llc_state.proofs.InRange.{head-tells}
 use Rattle.llc_state.proofs.Lengths.{lengths}
 use Rattle.llc_state.proofs.State.in_range.Goals as goal
-
--- The head passed.
-passed : (c : goal.Else-not-head_in_range) → head_in_range c.args.self ≡ true
-passed c = sym c.head_in_range.ensures ∙ not-false _ c.if-not-head_in_range.false-raw
-
-head : (c : goal.Else-not-head_in_range) → Head c.args.self
-head c = head-tells c.args.self (passed c)
 
 pub returns-then-not-head_in_range : goal.returns-then-not-head_in_range
 unfolding state_in_range
 returns-then-not-head_in_range c =
-    rw (sym c.head_in_range.ensures ∙ not-true _ c.if-not-head_in_range.true-raw)
+    rw (sym c.head_in_range.ensures ∙ c.if-not-head_in_range.true)
 
 pub messages_in_range-requires : goal.messages_in_range-requires
 messages_in_range-requires c =
-    (head c.before.before.before.before.before).messages
+    (head-tells c.args.self (sym c.head_in_range.ensures ∙ c.if-not-head_in_range.false)).messages
 
 pub udata_in_range-requires : goal.udata_in_range-requires
 udata_in_range-requires c =
-    (head c.before.before.before.before.before.before).udata
+    (head-tells c.args.self (sym c.head_in_range.ensures ∙ c.if-not-head_in_range.false)).udata
 
 pub acks_in_range-requires : goal.acks_in_range-requires
 acks_in_range-requires c =
-    (head c.before.before.before.before.before.before.before).acks
+    (head-tells c.args.self (sym c.head_in_range.ensures ∙ c.if-not-head_in_range.false)).acks
 
 pub rows_in_range-requires : goal.rows_in_range-requires
 rows_in_range-requires c =
-    (head c.before.before.before.before.before.before.before.before).rows
+    (head-tells c.args.self (sym c.head_in_range.ensures ∙ c.if-not-head_in_range.false)).rows
 
 pub places_in_range-requires : goal.places_in_range-requires
 places_in_range-requires c =
@@ -45,7 +36,7 @@ unfolding state_in_range
 returns c =
     let s = c.args.self in
     rw (
-      passed c.before.before.before.before.before.before.before.before.before.before,
+      sym c.head_in_range.ensures ∙ c.if-not-head_in_range.false,
       c.messages_in_range.ensures,
       c.udata_in_range.ensures,
       c.acks_in_range.ensures,

@@ -28,6 +28,6 @@ unfolding minus
 returns c =
     rw (passed c.is_valid.ensures c.if-not-is_valid.false-raw, passed c.is_valid-2.ensures c.if-not-is_valid-2.false-raw)
     (ap accepted
-    (same-i32 c.time_int_diff.result c.time_int_diff.type-inv
+    (same-i32 c.time_int_diff.result c.time_int_diff.type_inv
     ∙ c.time_int_diff.ensures
     ∙ ap₂ (λ (a b : ℕ). centred (pos a -ℤ pos b)) c.slots.ensures.value c.slots-2.ensures.value))
