@@ -12,7 +12,7 @@ use Rattle.leaf_exports.proofs.times.of_counted.Goals as goal
 
 pub returns-in-Slots : goal.returns-in-Slots
 returns-in-Slots c =
-    let same : to_z w32 (of_z w32 c.in-Slots.n) ≡ c.in-Slots.n = to_z-of_z (record { sfits = omega arith }) in
+    let same : to_z w32 (of_z w32 c.in-Slots.n) ≡ c.in-Slots.n = to_z-of_z {w = w32} (record { sfits = omega arith }) in
     let made : ℤ → SlotsAnswer = λ n. record { number = 0; slots = n } in
     ap made same ∙ sym (ap (λ (x : Counted). slots_of (counted x)) c.in-Slots.is)
 
