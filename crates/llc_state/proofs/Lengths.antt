@@ -1,14 +1,10 @@
 -- How long the arrays of a state are.
-use mathlib.Core.Path.{◌≡◌, ◌∙◌, sym}
+use mathlib.Core.Path.{◌≡◌}
 use denote.Laws.{Is}
 use denote.Struct.Declared.{row}
 use denote.Struct.Laws as S
-use lib.ListN.{length, length-map}
+use lib.ListN.{length}
 use Rattle.llc_state.specs.declared.State.{State}
-use Rattle.llc_state.specs.contracts.Entry
-use Rattle.llc_state.specs.contracts.ScheduledOutAck
-use Rattle.llc_state.specs.contracts.ReceiptPlace
-use Rattle.llc_state.specs.contracts.LinkSendSeq
 use Rattle.llc_state.specs.contracts.State.{the_type}
 use Rattle.llc_state.proofs.State.TheLaws.{the_laws}
 
@@ -23,9 +19,9 @@ pub lengths : (s : State) → Is (row the_type) s (S.vals the_type the_laws s) �
 lengths s p =
     let q = p.1.1.1.1.1.1.1 in
     record {
-      messages = sym (length-map s.outbound_messages (Entry.the_type).to) ∙ q.1.1.1.0.1.0.1;
-      udata = sym (length-map s.outbound_udata_messages (Entry.the_type).to) ∙ q.1.1.1.1.0.1.0.1;
-      acks = sym (length-map s.scheduled_out_acks (ScheduledOutAck.the_type).to) ∙ q.1.1.1.1.1.0.1.0.1;
-      places = sym (length-map s.receipts (ReceiptPlace.the_type).to) ∙ q.1.1.1.1.1.1.0.1.0.1;
-      rows = sym (length-map s.link_send_seq (LinkSendSeq.the_type).to) ∙ q.1.1.1.1.1.1.1.0.1.0.1;
+      messages = q.1.1.1.0.1.0.1;
+      udata = q.1.1.1.1.0.1.0.1;
+      acks = q.1.1.1.1.1.0.1.0.1;
+      places = q.1.1.1.1.1.1.0.1.0.1;
+      rows = q.1.1.1.1.1.1.1.0.1.0.1;
     }
