@@ -1,6 +1,6 @@
 /* The basic link (LLC) of a TETRA base station: the engine that is proved in Rattle, for C on x86-64.
  *
- * Link with target/staticlib/libllc_exports.a, which `rt staticlib llc_exports` makes. A call's bytes, the records and the
+ * Link with crates/llc_exports/out/libllc_exports.a, which `python3 tools/build llc_exports` makes. A call's bytes, the records and the
  * numbers are document 01's, as the requests in docs/changes change them. The structs are those of crates/llc_state, crates/llc_steps and crates/tdma_time; look at them,
  * and let only wipturay_call write them: the state that a call leaves is the one to hand to the next. */
 #ifndef WIPTURAY_H

@@ -192,9 +192,9 @@ kind == "antt" && /^ *((abbrev|unfoldable) )?pub / {
         field[of_record, name] = 1
 }
 # What crates/claims cites: "field = Alias.theorem;".
-here == "crates/claims" && /^use Rattle·[a-z0-9_]+\.proofs\.[A-Za-z0-9.]+ as / {
+here == "crates/claims" && /^use Rattle\.[a-z0-9_]+\.proofs\.[A-Za-z0-9.]+ as / {
     split($2, names, /\.proofs\./)
-    sub(/^Rattle·/, "", names[1])
+    sub(/^Rattle\./, "", names[1])
     gsub(/\./, "/", names[2])
     alias[FILENAME, $4] = "crates/" names[1] "/proofs/" names[2] ".antt"
 }

@@ -24,21 +24,14 @@ build_rust() {
     done
 }
 
-# Makes the archive of a crate, unless it is newer than every crate.
-build_archive() { # NAME
-    local archive=target/staticlib/lib$1.a
-    [ -f "$archive" ] && [ -z "$(find crates crates.txt -newer "$archive" -print -quit)" ] && return
-    rt staticlib "$1" >/dev/null
-}
-
 # The Rust, the binding over the engine's archive, and the oracle's library.
 build_oracle() {
-    build_rust && build_archive llc_exports || return
-    build wipturay rlib bindings/rust/src/lib.rs -L target/staticlib -l static=llc_exports || return
+    build_rust && python3 tools/build llc_exports || return
+    build wipturay rlib bindings/rust/src/lib.rs -L crates/llc_exports/out -l static=llc_exports || return
     build oracle rlib tests/oracle/src/lib.rs
 }
 
 # The comparison of the leaves, over their archive, with the Rust that is built before it.
 build_leaves() {
-    build_archive leaf_exports && build leaves bin tests/oracle/src/leaves/main.rs -L target/staticlib -l static=leaf_exports
+    python3 tools/build leaf_exports && build leaves bin tests/oracle/src/leaves/main.rs -L crates/leaf_exports/out -l static=leaf_exports
 }

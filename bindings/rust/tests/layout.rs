@@ -131,7 +131,7 @@ fn declared() -> HashMap<String, Layout> {
         let text = rattle(&format!("{name}/src/lib.rt"));
         let mut lines = text.lines();
         while lines.any(|line| line == "#[repr(C)]") {
-            let head = lines.next().unwrap();
+            let head = lines.find(|line| !line.starts_with("#[")).unwrap();
             let name = head
                 .strip_prefix("pub struct ")
                 .and_then(|head| head.strip_suffix(" {"))

@@ -1,5 +1,7 @@
 // The bits of one field in lent bytes, and a copy of many. A place counts bits from the first byte's highest. A field spans at
 // most 9 bytes: inside its reading and writing, places count from the field's first byte, as 16-bit numbers.
+#![tactic(auto)]
+
 ghost use Rattle.std.specs.Prelude.{◌+◌, ◌-◌, ◌*◌, ◌/◌, ◌%◌, ◌^◌, ◌≤◌, ◌<◌, ◌≡◌, ◌++◌, length, replicate};
 ghost use Rattle.bits.specs.Bits.{to_bits, value, bits, part, splice};
 

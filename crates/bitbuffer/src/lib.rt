@@ -1,5 +1,7 @@
 // A window of start, position and end over lent bytes, by value, from tetra-core's bitbuffer.rs. The first bit of a byte is
 // its highest. Every method takes every window and any bytes, and asks first whether the two fit (question 5).
+#![tactic(auto)]
+
 mod reads;
 mod writes;
 

@@ -1,4 +1,6 @@
 // Bytes as lists of bits: the definitions in specs/Bits.antt, their laws in proofs/, and one question.
+#![tactic(auto)]
+
 ghost use Rattle.std.specs.Prelude.{◌≡◌, leb, length};
 ghost use Rattle.bits.specs.Bits.{bits};
 

@@ -1,6 +1,8 @@
 // Every theorem that docs/CLAIMS.md cites, by its type. A crate is proved without a theorem that nothing cites; here each function ensures
 // a record of theorems, and is proved only with all of them. For one more: a field in specs/, a line in the function's proof, and its
 // name in docs/CLAIMS.md (tests/claims).
+#![tactic(auto)]
+
 ghost use Rattle.claims.specs.Runs.{Runs};
 ghost use Rattle.claims.specs.OrdersLost.{OrdersLost};
 ghost use Rattle.claims.specs.SlotTime.{SlotTime};

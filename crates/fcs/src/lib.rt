@@ -1,4 +1,6 @@
 // The frame check sequence, from tetra-entities' llc/components/fcs.rs, over the bits of a lent part of a frame.
+#![tactic(auto)]
+
 ghost use Rattle.std.specs.Prelude.{◌≡◌, ◌+◌, ◌*◌, ◌≤◌, ◌<◌, leb, length};
 ghost use Rattle.bits.specs.Bits.{to_bits, value, bits, part as cut};
 ghost use Rattle.fcs.specs.Fcs.{start, fcs};

@@ -51,8 +51,8 @@ scan-on {ps} {l} {bs} (c ∷ cs) f n =
     by-test (eqb c line_end)
     (λ t.
     rw (t, eqb-true c line_end t, whole-line ps n cs, finished-says f)
-    (ap (λ (r : List (Option (List ℕ))). said (finished_of l) bs ∷ r) (scan-on cs (begin bs f.room) tt)))
-    (λ t. rw t (scan-on cs (feed-keeps c f) (no-end-more ps c n t) ∙ rw (append_assoc ps (c ∷ []) cs)))
+    (ap (λ (r : List (Option (List ℕ))). said (finished_of l) bs ∷ r) (scan-on {ps = []} cs (begin bs f.room) tt)))
+    (λ t. rw t (scan-on {ps = ps ++ (c ∷ [])} cs (feed-keeps c f) (no-end-more ps c n t) ∙ rw (append_assoc ps (c ∷ []) cs)))
 
 -- A whole input, from its first character on.
 pub scan-reads : (bs cs : List ℕ) → most_bytes ≤ length bs → scan fresh bs cs ≡ map call_in (lines_of cs)

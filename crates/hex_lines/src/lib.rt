@@ -1,4 +1,6 @@
 // Lines of hexadecimal digits: calls gathered from them character by character, numbers and bytes written as lines.
+#![tactic(auto)]
+
 mod chunks;
 mod reading;
 mod writing;

@@ -1,4 +1,6 @@
 // The leaves for a program in another language, to compare and to measure them there.
+#![tactic(auto)]
+
 mod answers;
 mod frames;
 mod reads;

@@ -1,4 +1,6 @@
 // The calls of a basic link, taken apart from lent bytes, and whether their values are in range.
+#![tactic(auto)]
+
 mod decoding;
 mod numbers;
 mod ranges;

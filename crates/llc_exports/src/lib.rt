@@ -1,4 +1,6 @@
 // The link for a program in another language. The declarations of bindings/ mirror these.
+#![tactic(auto)]
+
 ghost use Rattle.std.specs.Prelude.{◌≡◌};
 ghost use Rattle.bits.specs.Bits.{bits};
 ghost use Rattle.llc_state.specs.States.{new_state};

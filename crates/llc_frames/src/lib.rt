@@ -1,4 +1,6 @@
 // Frames that came in, from tetra-entities' llc_bs_ms.rs.
+#![tactic(auto)]
+
 mod frames;
 
 pub use frames::rx_tma_unitdata_ind;

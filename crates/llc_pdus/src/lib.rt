@@ -1,4 +1,6 @@
 // The basic link PDUs, from tetra-pdus' llc: BL-ADATA, BL-DATA, BL-UDATA and BL-ACK, read and written in lent bytes.
+#![tactic(auto)]
+
 mod headers;
 mod llc_pdu_type;
 mod reading;

@@ -1,4 +1,6 @@
 // The queues and tables of the link's state, as tetra-entities' llc_bs_ms.rs searches and changes them.
+#![tactic(auto)]
+
 mod searches;
 mod updates;
 

@@ -1,4 +1,6 @@
 // The records of a basic link, written into lent bytes as llc_rule's definitions have them.
+#![tactic(auto)]
+
 mod fields;
 mod records;
 

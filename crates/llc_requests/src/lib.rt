@@ -1,4 +1,6 @@
 // Data and unitdata requests, from tetra-entities' llc_bs_ms.rs: the questions first, then the message is put last.
+#![tactic(auto)]
+
 mod entries;
 mod requests;
 

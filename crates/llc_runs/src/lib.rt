@@ -1,1 +1,2 @@
 // Runs of the basic link: definitions and theorems alone.
+#![tactic(auto)]

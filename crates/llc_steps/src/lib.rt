@@ -1,4 +1,6 @@
 // One call of the link on a state and a store, from tetra-entities' llc_bs_ms.rs: what it answers.
+#![tactic(auto)]
+
 ghost use Rattle.std.specs.Prelude.{◌≡◌};
 ghost use Rattle.llc_steps.specs.Answers.{answer};
 

@@ -1,4 +1,6 @@
 // tick_end of tetra-entities' llc_bs_ms.rs: what is due is handed down, in four passes.
+#![tactic(auto)]
+
 mod four_passes;
 mod free_messages;
 mod messages;

@@ -1,5 +1,7 @@
 // The records of a call as lines: its output, the bytes of its records one behind the other, cut into records and written
 // as lines of hexadecimal digits.
+#![tactic(auto)]
+
 ghost use Rattle.std.specs.Prelude.{◌+◌, ◌*◌, ◌≤◌, ◌<◌, min, ◌≡◌, length, take};
 ghost use Rattle.std.proofs.Math.Seq.{slice};
 ghost use Rattle.lists.specs.Writes.{Wrote};

@@ -7,6 +7,7 @@ ghost use Rattle.record_lines.specs.Split.{lines_of_records};
 use crate::output::with_room;
 use hex_lines::{Finished, Line};
 use llc_state::State;
+use std::io::Stdout;
 
 // The number of a line that spells no call.
 const NO_CALL: u8 = 2;
@@ -70,6 +71,7 @@ fn call(
 
 // Answers a line that is at its end, behind the text that waits, which is written first if there is no room.
 pub(crate) fn answer(
+    to: Stdout,
     state: State,
     line: Line,
     bytes: &[u8],
@@ -83,7 +85,7 @@ pub(crate) fn answer(
     requires at_in_bounds { at ≤ length text.old }
     ensures { result.at ≤ length text.new }
 {
-    let place = with_room(text, at, 4 + 3 * out.len());
+    let place = with_room(to, text, at, 4 + 3 * out.len());
     if !place.open {
         return Answered {
             state,

@@ -7,6 +7,13 @@ use llc::{OUTPUT, STORE};
 // As many characters as the longest answer has, and as many again.
 const TEXT: usize = 2 * (4 + 3 * OUTPUT);
 
+// A chunk of the input.
+pub(crate) fn chunk() -> [u8; 65_536]
+    ensures { 65_536 ≡ length result }
+{
+    [0; 65_536]
+}
+
 // The bytes of a line's call, of at most 4,096 digits.
 pub(crate) fn bytes() -> [u8; 2048]
     ensures { 2048 ≡ length result }

@@ -5,6 +5,7 @@ use crate::answers::answer;
 use crate::output::write_out;
 use hex_lines::{Line, gather};
 use llc_state::State;
+use std::io::Stdout;
 
 // What is under way between two chunks.
 #[derive(Clone, Copy)]
@@ -17,6 +18,7 @@ pub(crate) struct Progress {
 
 // Answers the lines that end in a chunk, and writes the answers.
 pub(crate) fn answer_lines(
+    to: Stdout,
     progress: Progress,
     chunk: &[u8],
     bytes: &mut [u8],
@@ -37,7 +39,7 @@ pub(crate) fn answer_lines(
         line = so_far;
         i = g.next;
         if g.ended {
-            let a = answer(state, line, bytes, store, out, text, at);
+            let a = answer(to, state, line, bytes, store, out, text, at);
             let next = a.state;
             state = next;
             line = Line::new();
@@ -51,6 +53,6 @@ pub(crate) fn answer_lines(
             }
         }
     }
-    let open = write_out(text, at);
+    let open = write_out(to, text, at);
     Progress { state, line, open }
 }

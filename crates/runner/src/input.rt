@@ -1,24 +1,28 @@
 // Standard input to its end, chunk by chunk.
-ghost use Rattle.std.specs.Prelude.{◌+◌, ◌*◌, ◌≤◌, ◌<◌, length};
-ghost use Rattle.io.specs.Counts.{IsPrefixLen};
+ghost use Rattle.std.specs.Prelude.{◌+◌, ◌*◌, ◌≤◌, ◌<◌, ◌≡◌, length, take};
 
 use crate::answers::answer;
 use crate::chunks::{Progress, answer_lines};
 use crate::output::write_out;
 use hex_lines::Line;
-use libc::STDIN_FILENO;
 use llc_state::NEW;
+use std::io::{Read, Stdin, Stdout};
 
 // Reads once; no bytes at the end of the input, or where it cannot be read.
-fn read(chunk: &mut [u8]) -> usize
-    ensures { IsPrefixLen result chunk.new }
+fn read(from: Stdin, chunk: &mut [u8]) -> usize
+    ensures in_bounds { result ≤ length chunk.new }
+    ensures prefix { result ≡ length (take result chunk.new) }
 {
-    let got = libc::read(STDIN_FILENO, chunk);
-    io::count(got, chunk)
+    let mut from = from;
+    match from.read(chunk) {
+        Ok(n) => n,
+        Err(_) => 0,
+    }
 }
 
 // At the end of the input: a last line without a line end counts.
 fn answer_last(
+    to: Stdout,
     progress: Progress,
     bytes: &[u8],
     store: &mut [u8],
@@ -37,8 +41,8 @@ fn answer_last(
             open: false,
         };
     }
-    let a = answer(state, line, bytes, store, out, text, 0);
-    write_out(text, a.at);
+    let a = answer(to, state, line, bytes, store, out, text, 0);
+    write_out(to, text, a.at);
     let state = a.state;
     Progress {
         state,
@@ -49,6 +53,8 @@ fn answer_last(
 
 // Reads once, and answers the lines that end in what came.
 fn turn(
+    from: Stdin,
+    to: Stdout,
     progress: Progress,
     chunk: &mut [u8],
     bytes: &mut [u8],
@@ -59,11 +65,11 @@ fn turn(
     requires in_bounds { 2048 ≤ length bytes.old }
     requires out_in_bounds { 4 + 3 * length out.old ≤ length text.old }
 {
-    let n = read(chunk);
+    let n = read(from, chunk);
     if n == 0 {
-        return answer_last(progress, bytes, store, out, text);
+        return answer_last(to, progress, bytes, store, out, text);
     }
-    answer_lines(progress, &chunk[..n], bytes, store, out, text)
+    answer_lines(to, progress, &chunk[..n], bytes, store, out, text)
 }
 
 // How many turns are left behind one: none where the run has ended.
@@ -80,6 +86,8 @@ fn turns_left(turns: u64, open: bool) -> u64
 // Answers the lines of standard input to its end, or until an answer cannot be written. A proved loop has to end, so it
 // counts its turns down, from a number that no run uses up.
 pub(crate) fn run(
+    from: Stdin,
+    to: Stdout,
     chunk: &mut [u8],
     bytes: &mut [u8],
     store: &mut [u8],
@@ -96,7 +104,7 @@ pub(crate) fn run(
     };
     let mut turns = u64::MAX;
     while 0 < turns {
-        progress = turn(progress, chunk, bytes, store, out, text);
+        progress = turn(from, to, progress, chunk, bytes, store, out, text);
         turns = turns_left(turns, progress.open);
     }
 }

@@ -1,7 +1,7 @@
 // Text that waits to be written.
 ghost use Rattle.std.specs.Prelude.{◌+◌, ◌≤◌, length};
 
-use libc::STDOUT_FILENO;
+use std::io::Stdout;
 
 // A place for more text.
 #[derive(Clone, Copy)]
@@ -12,14 +12,14 @@ pub(crate) struct Place {
 }
 
 // Writes the text before a place, and says whether it could.
-pub(crate) fn write_out(text: &[u8], at: usize) -> bool
+pub(crate) fn write_out(to: Stdout, text: &[u8], at: usize) -> bool
     requires { at ≤ length text.now }
 {
-    io::write_all(STDOUT_FILENO, &text[..at])
+    to.write_all(&text[..at]).is_ok()
 }
 
 // The place itself if there is room for so many characters behind it, else the front, once the text before it is written.
-pub(crate) fn with_room(text: &[u8], at: usize, need: usize) -> Place
+pub(crate) fn with_room(to: Stdout, text: &[u8], at: usize, need: usize) -> Place
     requires at_in_bounds { at ≤ length text.now }
     requires need_in_bounds { need ≤ length text.now }
     ensures { result.at + need ≤ length text.now }
@@ -27,6 +27,6 @@ pub(crate) fn with_room(text: &[u8], at: usize, need: usize) -> Place
     if need <= text.len() - at {
         return Place { at, open: true };
     }
-    let open = write_out(text, at);
+    let open = write_out(to, text, at);
     Place { at: 0, open }
 }

@@ -1,5 +1,7 @@
 // Slot time by value, from tetra-core's tdma_time.rs: frames of 4 slots, multiframes of 18 frames,
 // hyperframes of 60 multiframes. Every function takes every value of its types.
+#![tactic(auto)]
+
 ghost use Rattle.std.specs.Prelude.{◌≡◌, true, ◌≤◌, ◌<◌, pos, ◌+ℤ◌, ◌-ℤ◌};
 ghost use Rattle.tdma_time.specs.Modulo.{modulo};
 ghost use Rattle.tdma_time.specs.Slots.{W, valid, slots as slots_of, time_at, first, half, plus, centred, ahead as ahead_of};

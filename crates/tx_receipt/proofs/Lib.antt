@@ -1,3 +1,1 @@
-mod ByValue
-pub mod InPlace
 pub mod Laws

@@ -1,5 +1,7 @@
 // Transmit receipts by value, from tetra-core's tx_receipt.rs. A mark that the Rust panics on is
 // refused, and the receipt comes back as it was.
+#![tactic(auto)]
+
 ghost use Rattle.std.specs.Prelude.{◌≡◌, Bool, true, false};
 ghost use Rattle.tx_receipt.specs.States.{number, numbered, is, at_least, final};
 ghost use Rattle.tx_receipt.specs.Marks.{Mark, transmitted, discarded, acknowledged, lost, reset, allowed, at, answer, marked};

@@ -1,0 +1,20 @@
+use Prim.Native.Nat.{◌-◌}
+use Rattle.lists.proofs.Asking.{begins, goes_on, fails, ends}
+use Rattle.llc_state.specs.Ranges.{place_in_range}
+use Rattle.llc_state.proofs.ranges.places_in_range.Goals as goal
+
+pub loop-i-init : goal.loop-i-init
+loop-i-init c =
+    begins place_in_range 128 _ _ c.requires c.well_formed.0.1.0.1
+
+pub returns-then-not-place_in_range : goal.returns-then-not-place_in_range
+returns-then-not-place_in_range c =
+    fails c.loop-i.invariant _ _ c.loop-i-test.true c.place_in_range.ensures c.if-not-place_in_range.true-raw
+
+pub loop-i-preserved : goal.loop-i-preserved
+loop-i-preserved c =
+    goes_on c.loop-i.invariant _ _ c.loop-i-test.true c.place_in_range.ensures c.if-not-place_in_range.false-raw
+
+pub returns : goal.returns
+returns c =
+    ends c.loop-i.invariant c.loop-i-test.false

@@ -1,0 +1,10 @@
+use Prim.Native.Nat.{◌-◌}
+use Rattle.lists.proofs.Asking.{Asking}
+use Rattle.llc_state.specs.Ranges.{udata_in_range}
+use Rattle.llc_state.proofs.ranges.udata_in_range.Given as goal
+
+abbrev pub invariant-loop-i : goal.invariant-loop-i
+invariant-loop-i l = Asking udata_in_range 32 l.n l.entries l.i
+
+abbrev pub decreases-loop-i : goal.decreases-loop-i
+decreases-loop-i l = l.n - l.i
