@@ -2,7 +2,7 @@
 -- and definition wrong alike are refused here.
 use Prim.Native.Nat.{ℕ}
 use mathlib.Core.Path.{◌≡◌, refl}
-use mathlib.Core.Bool.{Bool, true, false}
+use mathlib.Core.Bool.{true, false}
 use mathlib.Core.List.{List, [], ◌∷◌}
 use lib.IntN.{pos, negsuc}
 use Rattle.bits.specs.Bits.{to_bits, value, bits}

@@ -10,7 +10,7 @@ use borrow.Author.Tests.{leb-true, leb-false, le-leb, lt-leb}
 use lib.Arith.{digits_lt}
 use lib.Dec.{leb}
 use lib.ListN.{length, take, drop, get_or, set, length-append, length-take, length-drop, take-append-drop}
-use lib.Pow.{pow-add, high, low, shr-shr, mod-pow-add, mod-mod-pow, field}
+use lib.Pow.{pow-add, high, shr-shr, mod-pow-add, mod-mod-pow, field}
 use lib.Seq.{take-append-le, drop-append-le, take-append-add, drop-append-add, drop-nil, take-nil, take_at, drop_at, split_at, take-append_seam, drop-drop, take-take, take-add, drop-cons, length-take-le, set_split}
 use Rattle.bits.specs.Bits.{to_bits, value, bits, part, splice, AllBits}
 

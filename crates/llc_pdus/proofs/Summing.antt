@@ -13,7 +13,7 @@ use Rattle.fcs.specs.Fcs.{fcs_bits, fcs}
 use Rattle.fcs.specs.declared.Fcs as FcsModule
 use Rattle.fcs.specs.declared.Fcs.TheVariants.{Sum}
 use Rattle.fcs.proofs.Laws.{length-fcs, all-fcs}
-use Rattle.questions.specs.Outcome.{Outcome, accepted}
+use Rattle.questions.specs.Outcome.{accepted}
 use Rattle.llc_pdus.specs.Headers.{has_fcs}
 use Rattle.llc_pdus.specs.Frames.{check_bits, check_sequence}
 use Rattle.llc_pdus.specs.declared.Pdu.{Pdu}

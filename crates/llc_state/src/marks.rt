@@ -1,5 +1,4 @@
-// The three marks that the link makes on a receipt that it lends: its only functions that make a reference to a struct, so that
-// each is proved by a walk by hand (proofs/Lending.antt).
+// The three marks that the link makes on a receipt that it lends: its only functions that make a reference to a struct.
 ghost use Rattle.std.specs.Prelude.{◌≡◌};
 ghost use Rattle.tx_receipt.specs.Marks.{acknowledged, lost, reset, marked};
 

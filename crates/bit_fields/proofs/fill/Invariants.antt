@@ -1,4 +1,3 @@
-use Prim.Native.Nat.{◌-◌}
 use Rattle.bit_fields.proofs.Filling.{Filling}
 use Rattle.bit_fields.proofs.fill.Given as goal
 

@@ -1,4 +1,4 @@
-use Prim.Native.Nat.{◌+◌, ◌-◌, ◌%◌}
+use Prim.Native.Nat.{◌+◌, ◌%◌}
 use mathlib.Core.Path.{◌≡◌}
 use Rattle.bit_fields.proofs.Reading.{Reading}
 use Rattle.bit_fields.proofs.get_from.Given as goal

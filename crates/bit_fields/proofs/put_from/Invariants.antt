@@ -1,4 +1,4 @@
-use Prim.Native.Nat.{◌+◌, ◌-◌, ◌%◌}
+use Prim.Native.Nat.{◌+◌, ◌%◌}
 use mathlib.Core.Path.{◌≡◌}
 use Rattle.bit_fields.proofs.Writing.{Writing}
 use Rattle.bit_fields.proofs.put_from.Given as goal

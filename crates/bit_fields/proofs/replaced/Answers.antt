@@ -38,8 +38,8 @@ joined-requires c =
     let x : c.lowest.result < 2 ^ a.h = rw c.lowest.ensures (mod-lt a.x (pow_pos a.h)) in record {
       h_bound = omega arith;
       h_bound_2 = rw c.joined-upper.ensures
-            (shifted_fits (p + a.h) a.s (c.piece-top.result * 2 ^ a.h + c.lowest.result)
-            (joined-below p a.h c.piece-top.result c.lowest.result t x) (omega arith));
+          (shifted_fits (p + a.h) a.s (c.piece-top.result * 2 ^ a.h + c.lowest.result)
+          (joined-below p a.h c.piece-top.result c.lowest.result t x) (omega arith));
       x_bound = rw c.lowest-2.ensures (mod-lt a.b (pow_pos a.s));
     }
 

@@ -1,11 +1,8 @@
 use native.Mathlib.Omega.{arith}
-use mathlib.Core.Path.{◌≡◌, ◌∙◌, sym}
-use lib.Dec.{eqb}
+use mathlib.Core.Path.{◌∙◌, sym}
 use borrow.Author.Tests.{lt-leb, eq-eqb, ne_eqb}
 use Rattle.bits.specs.Bits.{bits}
-use Rattle.questions.specs.Outcome.{accepted, ask}
 use Rattle.questions.proofs.Asked.{passed, failed}
-use Rattle.fcs.specs.Answers.{check}
 use Rattle.fcs.proofs.Computed.{in-range, compared}
 use Rattle.fcs.proofs.check_fcs.Goals as goal
 

@@ -11,7 +11,7 @@ pub returns : goal.returns
 returns c =
     record {
       value = sym
-      (modulo-raised c.args.s c.args.n c.raised.result
-      (c.raised.ensures ∙ ap (λ (n : ℤ). n +ℤ pos 2147483648) (to_z-of_z c.ranges.n)));
+          (modulo-raised c.args.s c.args.n c.raised.result
+          (c.raised.ensures ∙ ap (λ (n : ℤ). n +ℤ pos 2147483648) (to_z-of_z c.ranges.n)));
       upper_bound = omega arith;
     }

@@ -33,8 +33,8 @@ returns-in-Frame c =
 pub returns-in-ByReceipt : goal.returns-in-ByReceipt
 unfolding in_range_of
 returns-in-ByReceipt c =
-    let e = c.call-in-ByReceipt-1.given in
-    ap (λ (b : Bool). is_receipt e.0.0 && b) c.action_in_range.ensures ∙ sym (ap in_range_of e.1)
+    let e = c.in-ByReceipt in
+    ap (λ (b : Bool). is_receipt e.receipt && b) c.action_in_range.ensures ∙ sym (ap in_range_of e.is)
 
 pub returns-in-Unfilled : goal.returns-in-Unfilled
 unfolding in_range_of

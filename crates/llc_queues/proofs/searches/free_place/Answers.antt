@@ -1,11 +1,11 @@
 use Prim.Native.Nat.{◌-◌}
 use native.Mathlib.Omega.{arith}
-use mathlib.Core.Logic.{⊎_elim}
 use mathlib.Core.Bool.{not}
 use Rattle.lists.proofs.Searching.{begins, goes_on, found, ends}
 use Rattle.llc_state.proofs.Lengths.{lengths}
 use Rattle.llc_steps.specs.Places.{free_place, used_places}
 use Rattle.llc_queues.proofs.Marking.{unmarked, starts, marks-it, passes-it, all-marked, first-free, none_free}
+use Rattle.llc_queues.proofs.searches.free_place.Goals.{then-place-lt-STORE_PLACES, else-place-lt-STORE_PLACES, then-place-lt-STORE_PLACES-2, else-place-lt-STORE_PLACES-2}
 use Rattle.llc_queues.proofs.searches.free_place.Goals as goal
 
 pub loop-i-init : goal.loop-i-init
@@ -14,10 +14,10 @@ loop-i-init c =
 
 pub loop-i-preserved : goal.loop-i-preserved
 loop-i-preserved c =
-    ⊎_elim
-    (λ w. marks-it c.loop-i.invariant _ c.loop-i-test.true w.0.taken w.1)
-    (λ w. passes-it c.loop-i.invariant _ c.loop-i-test.true w.0.left w.1)
-    c.if-place-lt-STORE_PLACES.branch
+    elim c.if-place-lt-STORE_PLACES.branch [
+      | then-place-lt-STORE_PLACES w ↦ marks-it c.loop-i.invariant _ c.loop-i-test.true w.if-place-lt-STORE_PLACES.true w.used-is
+      | else-place-lt-STORE_PLACES w ↦ passes-it c.loop-i.invariant _ c.loop-i-test.true w.if-place-lt-STORE_PLACES.false w.used-is
+    ]
 
 pub loop-j-init : goal.loop-j-init
 loop-j-init c =
@@ -25,10 +25,10 @@ loop-j-init c =
 
 pub loop-j-preserved : goal.loop-j-preserved
 loop-j-preserved c =
-    ⊎_elim
-    (λ w. marks-it c.loop-j.invariant _ c.loop-j-test.true w.0.taken w.1)
-    (λ w. passes-it c.loop-j.invariant _ c.loop-j-test.true w.0.left w.1)
-    c.if-place-lt-STORE_PLACES-2.branch
+    elim c.if-place-lt-STORE_PLACES-2.branch [
+      | then-place-lt-STORE_PLACES-2 w ↦ marks-it c.loop-j.invariant _ c.loop-j-test.true w.if-place-lt-STORE_PLACES-2.true w.used-is
+      | else-place-lt-STORE_PLACES-2 w ↦ passes-it c.loop-j.invariant _ c.loop-j-test.true w.if-place-lt-STORE_PLACES-2.false w.used-is
+    ]
 
 pub loop-p-init : goal.loop-p-init
 loop-p-init c =
