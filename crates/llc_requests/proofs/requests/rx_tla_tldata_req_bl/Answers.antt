@@ -123,7 +123,7 @@ returns c =
     let b = bits c.args.store.now in
     as-asked
     (elim c.if-steals.branch [
-      then-steals+else-ack-state w ↦
+      | then-steals+else-ack-state w ↦
           data-undue r c.args.state b c.if-state-q.false c.if-q-steals.false c.if-state-ge32.false
           w.if-steals.true-raw w.preferred_carrier-carrier.ensures w.out_ack_if_any-ack.ensures w.if-ack-state.false
       | else-steals w ↦

@@ -2,11 +2,7 @@ use Prim.Native.Nat.{◌-◌}
 use Rattle.lists.proofs.Writes.{as_long}
 use Rattle.llc_state.proofs.Lengths.{lengths}
 use Rattle.llc_tick_end.proofs.FreeMessages.{begins, in-range, is-under-way, waits, room, is-sent, left-state, all-written}
-use Rattle.llc_tick_end.proofs.free_messages.submit_free_messages_to_umac.Statement.{
 use Rattle.llc_tick_end.proofs.free_messages.submit_free_messages_to_umac.Goals as goal
-
-  statement,
-}
 
 pub loop-i-init : goal.loop-i-init
 loop-i-init c =
@@ -24,10 +20,9 @@ pub put_message-at-requires : goal.put_message-at-requires
 put_message-at-requires c =
     let inv = c.loop-i.invariant in
     let test = c.loop-i-test.true in
-    let p = c.requires.1 in
-    let e = in-range inv _ test p.0 in
-    let fits = room inv _ test c.if-state-m.false c.is_blocked.ensures c.if-is_blocked.false p.1.1 in record {
-      store_len = p.1.0;
+    let e = in-range inv _ test c.requires.state_value in
+    let fits = room inv _ test c.if-state-m.false c.is_blocked.ensures c.if-is_blocked.false c.requires.state_in_bounds in record {
+      store_len = c.requires.store_len;
       block_len_bound = e.block;
       place_lt_store_places = e.place;
       len_le_longest_sent = e.len;

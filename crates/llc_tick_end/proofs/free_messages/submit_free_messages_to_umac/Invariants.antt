@@ -1,7 +1,6 @@
 use Prim.Native.Nat.{◌-◌}
 use Rattle.bits.specs.Bits.{bits}
 use Rattle.llc_tick_end.proofs.FreeMessages.{Passing}
-use Rattle.llc_tick_end.proofs.free_messages.submit_free_messages_to_umac.Statement.{
 use Rattle.llc_tick_end.proofs.free_messages.submit_free_messages_to_umac.Given as goal
 
 abbrev pub invariant-loop-i : goal.invariant-loop-i

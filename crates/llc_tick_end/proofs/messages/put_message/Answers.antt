@@ -23,7 +23,9 @@ use Rattle.llc_tick_end.proofs.messages.put_message.Goals as goal
 
 -- How long the array of a block is.
 block-long : (e : Entry) → Is (row the_type) e (S.vals the_type the_laws e) → length e.sent.block ≡ 64
-block-long e p = sym (length-map e.sent.block (λ (v : ℕ). v)) ∙ search p
+block-long e p =
+    let sent = p.1.1.0.1.1 in
+    sent.1.1.1.1.1.1.1.1.1.1.1.0.1.0.1
 
 -- What is taken of a message, and that it is the message.
 abbrev sent_of : TmaUnitdataReq → SentRecord

@@ -6,11 +6,7 @@ use Rattle.lists.proofs.Writes.{as_long}
 use Rattle.llc_state.proofs.Lengths.{lengths}
 use Rattle.llc_tick_end.proofs.Clearing.{clears-on}
 use Rattle.llc_tick_end.proofs.Retransmitting.{passes, clearing, held-measures, visited-measures, visited-done, stays, room, sends-again, leaves, all-wrote, all-cleared}
-use Rattle.llc_tick_end.proofs.retransmissions.submit_retransmissions_to_umac.Statement.{
 use Rattle.llc_tick_end.proofs.retransmissions.submit_retransmissions_to_umac.Goals as goal
-
-  statement,
-}
 
 pub loop-i-init : goal.loop-i-init
 loop-i-init c =

@@ -1,7 +1,6 @@
 use Prim.Native.Nat.{◌-◌}
 use Rattle.llc_tick_end.proofs.Clearing.{Clearing}
 use Rattle.llc_tick_end.proofs.Retransmitting.{Passing}
-use Rattle.llc_tick_end.proofs.retransmissions.submit_retransmissions_to_umac.Statement.{
 use Rattle.llc_tick_end.proofs.retransmissions.submit_retransmissions_to_umac.Given as goal
 
 abbrev pub invariant-loop-i : goal.invariant-loop-i
