@@ -1,4 +1,3 @@
-use Prim.Native.Nat.{◌-◌}
 use borrow.Author.Rules.{rules}
 use Rattle.llc_requests.proofs.Blocks.{begin, next, ends}
 use Rattle.llc_requests.proofs.entries.block_of.Goals as goal

@@ -1,4 +1,3 @@
-use Prim.Native.Nat.{◌-◌}
 use Rattle.lists.proofs.Writes.{as_long}
 use Rattle.llc_state.proofs.Lengths.{lengths}
 use Rattle.llc_tick_end.proofs.FreeMessages.{begins, in-range, is-under-way, waits, room, is-sent, left-state, all-written}

@@ -1,13 +1,13 @@
 use Prim.Native.Nat.{ℕ, ◌*◌}
 use native.Mathlib.Omega.{arith}
-use mathlib.Core.Path.{◌≡◌, ◌∙◌, refl, sym, ap}
+use mathlib.Core.Path.{◌≡◌, refl, ap}
 use mathlib.Core.Bool.{Bool, true, false, cond}
 use mathlib.Core.List.{List}
 use mathlib.Core.Option.{none, some}
 use denote.Laws.{Is}
 use denote.Struct.Declared.{row}
 use denote.Struct.Laws as S
-use lib.ListN.{length, length-map}
+use lib.ListN.{length}
 use Rattle.lists.proofs.Writes.{same_bytes}
 use Rattle.bits.specs.Bits.{bits, part}
 use Rattle.llc_rule.specs.Limits.{place_bits}

@@ -1,4 +1,3 @@
-use Prim.Native.Nat.{◌-◌}
 use native.Mathlib.Omega.{arith}
 use Rattle.llc_rule.specs.Messages.{reply_to}
 use Rattle.llc_rule.specs.Records.{Record}
