@@ -14,7 +14,7 @@ use Rattle.llc_state.specs.InUse.{used}
 use Rattle.llc_state.specs.Ranges.{state_in_range}
 use Rattle.llc_state.specs.declared.State.{State}
 use Rattle.llc_state.specs.declared.Entry.{Entry}
-use Rattle.llc_state.proofs.Lengths.{Lengths}
+use Rattle.llc_state.specs.Lengths.{Lengths}
 use Rattle.llc_steps.specs.Holds.{Ready, kept_in}
 use Rattle.llc_steps.specs.Steps.{steps}
 use Rattle.llc_steps.specs.Sane.{Sane, SaneAfter}

@@ -41,7 +41,7 @@ use Rattle.llc_received.proofs.SentUp.{up-size, frame_small}
 use Rattle.llc_state.specs.Ranges.{state_in_range}
 use Rattle.llc_state.specs.declared.Entry.{Entry}
 use Rattle.llc_state.specs.declared.State.{State}
-use Rattle.llc_state.proofs.Lengths.{Lengths}
+use Rattle.llc_state.specs.Lengths.{Lengths}
 use Rattle.llc_steps.specs.Answers.{effect, answer, laid_out, delivered, WithAnyStore}
 use Rattle.llc_steps.specs.Calls.{row_if_numbered, ack_room, numbered, is_repeat, expected, finishable, may_finish, answered_by, answered, on_received}
 use Rattle.llc_steps.specs.States.{messages_of, Kept, kept}

@@ -22,7 +22,7 @@ use Rattle.llc_state.specs.Receipts.{place_of}
 use Rattle.llc_state.specs.declared.ScheduledOutAck.{ScheduledOutAck}
 use Rattle.llc_state.specs.declared.State.{State}
 use Rattle.llc_state.proofs.InRange.{range-tells}
-use Rattle.llc_state.proofs.Lengths.{Lengths}
+use Rattle.llc_state.specs.Lengths.{Lengths}
 use Rattle.llc_steps.specs.Answers.{effect, answer, delivered, WithAnyOut}
 use Rattle.llc_steps.specs.Calls.{carrier_for, ack_for, with_acknowledged, with_unacknowledged, with_stolen, row_for, on_data, on_unitdata, row_of}
 use Rattle.llc_steps.specs.States.{acks_of, rows_of, Kept}

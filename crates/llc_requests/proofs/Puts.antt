@@ -34,7 +34,7 @@ use Rattle.llc_state.specs.declared.ReceiptPlace.{ReceiptPlace}
 use Rattle.llc_state.specs.declared.LinkSendSeq.{LinkSendSeq}
 use Rattle.llc_state.specs.declared.State.{State}
 use Rattle.llc_state.proofs.InRange.{range-tells}
-use Rattle.llc_state.proofs.Lengths.{Lengths}
+use Rattle.llc_state.specs.Lengths.{Lengths}
 use Rattle.llc_steps.specs.Answers.{effect, answer, laid_out, WithAnyOut}
 use Rattle.llc_steps.specs.Calls.{entry_of, carrier_for, ack_for, seq_of, with_seq, next_seq, data_pdu, with_acknowledged, with_unacknowledged, row_of}
 use Rattle.llc_steps.specs.Places.{free_place}

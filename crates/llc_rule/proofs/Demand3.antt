@@ -11,13 +11,13 @@ use Rattle.questions.specs.Outcome.{Outcome, accepted, refused, number}
 use Rattle.llc_rule.specs.Calls.{Call, is_start, parsed}
 use Rattle.llc_rule.specs.Ranges.{in_range}
 use Rattle.llc_rule.specs.Records.{Record}
-use Rattle.llc_rule.specs.Messages.{Place, free, place_at, is_free, no_receipts}
+use Rattle.llc_rule.specs.Messages.{Place, place_at, is_free, no_receipts}
 use Rattle.llc_rule.specs.Done.{Done}
 use Rattle.llc_rule.specs.Link.{Link, new}
 use Rattle.llc_rule.specs.Step.{called, step}
 use Rattle.llc_rule.specs.Rule.{Own, at_outset, judged, rule}
 use Rattle.llc_rule.specs.Runs.{left, given, Exchange, exchange, run, after}
-use Rattle.llc_rule.specs.Past.{about_read, about_call, about, Holders, held_after, done_to, holders, whose_of, whose, concerns, left_out, in_past, History, nothing_yet, and_then, history, holders_after, past, is_tick_end, Sight, sight, is_holder, held_by, taken_from}
+use Rattle.llc_rule.specs.Past.{about_read, about_call, about, Holders, held_after, done_to, holders, whose_of, whose, concerns, left_out, in_past, History, nothing_yet, and_then, history, holders_after, is_tick_end, Sight, sight, is_holder, held_by, taken_from}
 use Rattle.llc_rule.specs.Seen.{rule_run, rule_sights, rule_after, calls, kept_by_rule, hindrances, unhindered, SeesItsOwnPast}
 use Rattle.llc_rule.specs.Sound.{Sound, is_nobody}
 use Rattle.llc_rule.proofs.Paths.{step-law, refused-number}

@@ -20,7 +20,7 @@ use Rattle.llc_pdus.specs.Received.{Received}
 use Rattle.llc_pdus.proofs.Received.{sdu-short, sdu-bits}
 use Rattle.llc_rule.specs.Calls.{Call, start, tick_start, tick_end, request, frame, by_receipt, Request, Frame, parsed}
 use Rattle.llc_rule.specs.Ranges.{has_mask, request_in_range, frame_in_range}
-use Rattle.llc_rule.specs.Records.{Record, acknowledged, unacknowledged}
+use Rattle.llc_rule.specs.Records.{Record, unacknowledged}
 use Rattle.llc_rule.specs.Upward.{indication, upward}
 use Rattle.llc_rule.specs.Messages.{Due, steals_slot, reply_to, carrier_of, sent_of}
 use Rattle.llc_rule.specs.Link.{Link, new}

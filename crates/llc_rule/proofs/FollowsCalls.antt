@@ -22,7 +22,7 @@ use Rattle.llc_pdus.specs.Headers.{ns_of, nr_of}
 use Rattle.llc_pdus.specs.Received.{Received}
 use Rattle.llc_pdus.specs.declared.Pdu.{Pdu}
 use Rattle.llc_pdus.specs.declared.Pdu.TheVariants.{BlUdata}
-use Rattle.llc_rule.specs.Calls.{start, tick_start, tick_end, request, Service, tl_data, tl_unitdata, report, Request, Frame, parsed}
+use Rattle.llc_rule.specs.Calls.{start, request, Service, tl_data, tl_unitdata, Request, Frame, parsed}
 use Rattle.llc_rule.specs.Ranges.{is_receipt, request_in_range, in_range}
 use Rattle.llc_rule.specs.Records.{Record, Sent}
 use Rattle.llc_rule.specs.Messages.{Message, waiting, Due, Place, free, taken, place_at, is_free, pending, taken?, marked, mark, mark_of, carrier_of, sent_of}
@@ -41,7 +41,7 @@ use Rattle.llc_rule.proofs.SoundRequests.{receipt-within}
 use Rattle.llc_rule.proofs.SoundCalls.{numbered as not-accepted, done-accepted, done_refused, sound-step}
 use Rattle.llc_rule.proofs.Events.{takes-nothing}
 use Rattle.llc_rule.proofs.Handed.{handed-upward}
-use Rattle.llc_rule.proofs.Watches.{Watch, asking, reported_as, is_order, unnoted, aged, goes_on, if_any, holding_now, watched_by, watched, watch_from, AllSentWell, Good, GoodBy, GoodIn, Fine, Each, goes-aged, goes-ended, goes-request, GoneAs, Gone}
+use Rattle.llc_rule.proofs.Watches.{Watch, asking, reported_as, is_order, aged, goes_on, if_any, holding_now, watched_by, watched, watch_from, AllSentWell, Good, GoodBy, GoodIn, Fine, Each, goes-aged, goes-ended, goes-request, GoneAs, Gone}
 use Rattle.llc_rule.proofs.Told.{at_outset}
 use Rattle.llc_rule.proofs.Follows.{is_of, mine, report_state, is_value, Held, OrderFollows, FollowsAs, FollowsBy, clock_of, At, held-fine, none-mine, free-mine}
 use Rattle.llc_rule.proofs.FollowsTickEnd.{SeenTick, tick-none, tick-order}

@@ -18,11 +18,10 @@ use Rattle.tx_receipt.specs.Marks as Marks
 use Rattle.tx_receipt.specs.Marks.{Mark}
 use Rattle.tx_receipt.specs.declared.TxState.{TxState}
 use Rattle.tx_receipt.specs.declared.TxState.TheVariants.{Pending, Discarded, Transmitted, Lost, Acknowledged}
-use Rattle.llc_rule.specs.Records.{Record, acknowledged, unacknowledged, Sent}
+use Rattle.llc_rule.specs.Records.{Record, acknowledged, Sent}
 use Rattle.llc_rule.specs.Messages.{Message, submitted_after, done_at, has_time, reaches, overdue, Place, taken, place_at, taken?, marked, mark, reported}
 use Rattle.llc_rule.specs.Link.{Link}
 use Rattle.llc_rule.specs.Step.{stay, resend, leave, aged_by, retransmission, Sending, first_sending, retransmissions, first_sendings, on_tick_end}
-use Rattle.llc_rule.specs.Past.{stays}
 use Rattle.llc_rule.specs.Sendings.{handed}
 use Rattle.llc_rule.specs.Lost.{tick_ended, Clock}
 use Rattle.llc_rule.proofs.Places.{turned, place-mark}

@@ -1,6 +1,6 @@
 -- What the statement of four sendings (specs/Lost.antt) refuses: histories that a wrong link would give, written by hand. A reason
 -- is determined by the exchanges, so that each can be looked up.
-use Prim.Native.Nat.{ℕ, ◌+◌, ◌-◌, ◌≤◌}
+use Prim.Native.Nat.{ℕ, ◌≤◌}
 use native.Mathlib.Omega.{arith}
 use mathlib.Core.Path.{◌≡◌, ◌∙◌, refl, sym, ap, subst}
 use mathlib.Core.Bool.{Bool, true, false, cond, ◌||◌, true≢false, false≢true}

@@ -16,7 +16,7 @@ use Rattle.tdma_time.specs.declared.TdmaTime.{TdmaTime}
 use Rattle.tx_receipt.specs.declared.TxReceipt.{TxReceipt}
 use Rattle.tx_receipt.specs.declared.TxState.{TxState}
 use Rattle.tx_receipt.specs.declared.TxState.TheVariants.{Pending, Discarded, Transmitted, Lost, Acknowledged}
-use Rattle.llc_rule.specs.Calls.{tick_end, request, Request}
+use Rattle.llc_rule.specs.Calls.{Request}
 use Rattle.llc_rule.specs.Records.{Sent}
 use Rattle.llc_rule.specs.Messages.{Message, reaches, overdue, Place, taken, place_at}
 use Rattle.llc_rule.specs.Runs.{Exchange}

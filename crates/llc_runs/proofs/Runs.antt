@@ -20,7 +20,7 @@ use Rattle.llc_rule.specs.Runs as Rule
 use Rattle.llc_rule.specs.Runs.{Exchange}
 use Rattle.llc_rule.proofs.Paths.{not-one}
 use Rattle.llc_state.specs.Ranges.{state_in_range}
-use Rattle.llc_state.proofs.Lengths.{Lengths}
+use Rattle.llc_state.specs.Lengths.{Lengths}
 use Rattle.llc_state.proofs.View.{new_in}
 use Rattle.llc_steps.specs.States.{Kept}
 use Rattle.llc_steps.specs.Steps.{steps}

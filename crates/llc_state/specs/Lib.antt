@@ -1,4 +1,5 @@
 pub mod InUse
+pub mod Lengths
 pub mod Progress
 pub mod Ranges
 pub mod Receipts

@@ -13,7 +13,7 @@ use Rattle.llc_state.specs.Ranges.{message_in_range, udata_in_range, state_in_ra
 use Rattle.llc_state.specs.declared.Entry.{Entry}
 use Rattle.llc_state.specs.declared.State.{State}
 use Rattle.llc_state.proofs.InRange.{entry-tells, message-tells, udata-tells, range-tells}
-use Rattle.llc_state.proofs.Lengths.{Lengths}
+use Rattle.llc_state.specs.Lengths.{Lengths}
 use Rattle.llc_steps.specs.Holds.{Stored, Ready}
 use Rattle.llc_steps.specs.States.{messages_of, udata_of}
 

@@ -21,7 +21,7 @@ use Rattle.llc_state.specs.View.{numbers_in, row_in, link_in}
 use Rattle.llc_state.specs.declared.LinkSendSeq.{LinkSendSeq}
 use Rattle.llc_state.specs.declared.State.{State}
 use Rattle.llc_state.proofs.InRange.{range-tells}
-use Rattle.llc_state.proofs.Lengths.{Lengths}
+use Rattle.llc_state.specs.Lengths.{Lengths}
 use Rattle.llc_state.proofs.Maps.{any-map}
 use Rattle.llc_steps.specs.States.{rows_of}
 use Rattle.llc_steps.specs.Calls.{row_of, seq_of, with_seq, row_for}

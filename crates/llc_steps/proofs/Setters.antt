@@ -1,5 +1,5 @@
 -- What a state with other elements in use holds, as a link.
-use Prim.Native.Nat.{ℕ, ◌-◌}
+use Prim.Native.Nat.{ℕ}
 use mathlib.Core.Path.{◌≡◌, refl, ap}
 use mathlib.Core.List.{List, map}
 use Rattle.lists.proofs.Arrays.{take-laid}

@@ -10,7 +10,7 @@ use Rattle.llc_state.specs.declared.State.{State}
 use Rattle.llc_state.specs.Ranges.{state_in_range}
 use Rattle.llc_state.specs.States.{no_ack}
 use Rattle.llc_state.proofs.InRange.{range-tells}
-use Rattle.llc_state.proofs.Lengths.{Lengths}
+use Rattle.llc_state.specs.Lengths.{Lengths}
 use Rattle.llc_steps.specs.States.{acks_of, put_acks, with_acks}
 
 -- A state whose acknowledgements due are as they were is as it was.

@@ -26,7 +26,7 @@ use Rattle.llc_state.specs.declared.Entry.{Entry}
 use Rattle.llc_state.specs.declared.ReceiptPlace.{ReceiptPlace}
 use Rattle.llc_state.specs.declared.State.{State}
 use Rattle.llc_state.proofs.InRange.{there-holds, progress-tells, message-tells, range-tells}
-use Rattle.llc_state.proofs.Lengths.{Lengths}
+use Rattle.llc_state.specs.Lengths.{Lengths}
 use Rattle.llc_steps.specs.States.{messages_of, with_messages}
 use Rattle.llc_steps.specs.TickEnd.{submitted_entry, stay, resend, leave, aged, retransmission, retransmissions, after_retransmissions, newly_done, timed_by, is_due}
 use Rattle.llc_steps.proofs.SaneTickEnd.{done-in-range}

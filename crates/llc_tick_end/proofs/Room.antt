@@ -18,7 +18,7 @@ use Rattle.llc_state.specs.View.{place_bit, frame_at, sent_in, message_in, due_i
 use Rattle.llc_state.specs.declared.Entry.{Entry}
 use Rattle.llc_state.specs.declared.State.{State}
 use Rattle.llc_state.proofs.InRange.{range-tells}
-use Rattle.llc_state.proofs.Lengths.{Lengths}
+use Rattle.llc_state.specs.Lengths.{Lengths}
 use Rattle.llc_steps.specs.TickEnd.{tick_records}
 use Rattle.llc_steps.proofs.TickEnd.{records-in}
 use Rattle.llc_tick_end.proofs.Entries.{Measures, message-measures, udata-measures}

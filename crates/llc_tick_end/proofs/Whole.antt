@@ -18,7 +18,7 @@ use Rattle.llc_rule.proofs.Room.{all_bytes-append}
 use Rattle.llc_state.specs.Ranges.{message_in_range, udata_in_range, state_in_range}
 use Rattle.llc_state.specs.declared.State.{State}
 use Rattle.llc_state.proofs.InRange.{range-tells}
-use Rattle.llc_state.proofs.Lengths.{Lengths}
+use Rattle.llc_state.specs.Lengths.{Lengths}
 use Rattle.llc_steps.specs.Sane.{Sane}
 use Rattle.llc_steps.specs.Answers.{effect, answer, laid_out, delivered}
 use Rattle.llc_steps.specs.States.{messages_of, udata_of, acks_of, with_udata, with_acks}

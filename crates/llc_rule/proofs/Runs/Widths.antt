@@ -4,7 +4,6 @@ use mathlib.Core.Bool.{true}
 use mathlib.Core.List.{List, [], ◌∷◌}
 use Rattle.llc_rule.specs.Link.{new}
 use Rattle.llc_rule.proofs.Runs.{Told, hex, ◌gets◌, ◌and◌, agrees}
-use Rattle.llc_rule.proofs.Runs.Edges.{acknowledgement}
 
 -- Question 3: tags next to the known ones, with the lengths that a known one has; before and after the start.
 pub tags : List Told

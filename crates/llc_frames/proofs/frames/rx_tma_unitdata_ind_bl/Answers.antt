@@ -1,26 +1,10 @@
-use mathlib.Core.Path.{◌≡◌, ◌∙◌, sym}
-use mathlib.Core.Bool.{true}
+use mathlib.Core.Path.{◌∙◌, sym}
 use borrow.Author.Tests.{not-true, not-false}
-use Rattle.llc_pdus.specs.Headers.{ns_of}
 use Rattle.llc_state.proofs.InRange.{range-tells}
 use Rattle.llc_state.proofs.Lengths.{lengths}
-use Rattle.llc_steps.specs.Calls.{row_if_numbered}
 use Rattle.llc_frames.proofs.Numbered.{same_queue}
 use Rattle.llc_frames.proofs.Paths.{rows-full, row-left, has_room, acks-full, not-finishable, heard}
 use Rattle.llc_frames.proofs.frames.rx_tma_unitdata_ind_bl.Goals as goal
-
--- Question 7 was passed.
-row-there : (c : goal.Else-row-ge256)
-    → let a = c.args in
-    row_if_numbered a.f.ssi (ns_of a.pdu) a.state ≡ true
-row-there c =
-    let n = c.seq_numbers-numbers in
-    let a = c.args in
-    row-left a.state a.f a.bytes.now a.pdu a.sdu.now a.place a.len n.result n.ensures.result_value n.ensures.result_value_2
-    c.requires.state_value
-    (lengths a.state c.well_formed.0)
-    c.seq_row-row.ensures
-    c.if-row-ge256.false
 
 pub seq_row-row-requires : goal.seq_row-row-requires
 seq_row-row-requires c =
@@ -42,9 +26,17 @@ pub returns-then-numbers-state : goal.returns-then-numbers-state
 returns-then-numbers-state c =
     let n = c.seq_numbers-numbers in
     let a = c.args in
+    -- Question 7 was passed.
+    let row-there =
+    row-left a.state a.f a.bytes.now a.pdu a.sdu.now a.place a.len n.result n.ensures.result_value n.ensures.result_value_2
+    c.requires.state_value
+    (lengths a.state c.well_formed.0)
+    c.seq_row-row.ensures
+    c.if-row-ge256.false
+    in
     acks-full a.state a.f a.bytes.now a.pdu a.sdu.now a.place a.len n.result n.ensures.result_value n.ensures.result_value_2
     a.out.now
-    (row-there c.before.before.before.before)
+    row-there
     c.if-numbers-state.true
     c.refused-then-numbers-state.ensures
 
@@ -60,10 +52,18 @@ pub returns-then-not-may_finish : goal.returns-then-not-may_finish
 returns-then-not-may_finish c =
     let n = c.seq_numbers-numbers in
     let a = c.args in
+    -- Question 7 was passed.
+    let row-there =
+    row-left a.state a.f a.bytes.now a.pdu a.sdu.now a.place a.len n.result n.ensures.result_value n.ensures.result_value_2
+    c.requires.state_value
+    (lengths a.state c.well_formed.0)
+    c.seq_row-row.ensures
+    c.if-row-ge256.false
+    in
     not-finishable a.state a.f a.bytes.now a.pdu a.sdu.now a.place a.len n.result n.ensures.result_value n.ensures.result_value_2
     c.ack_place-i.ensures
     a.out.now
-    (row-there c.before.before.before.before.before.before.before)
+    row-there
     c.if-numbers-state.false
     (sym c.may_finish.ensures ∙ not-true c.may_finish.result c.if-not-may_finish.true-raw)
     c.refused-then-not-may_finish.ensures
@@ -100,17 +100,27 @@ acknowledge-next-requires c =
 
 pub process_incoming_ack-requires : goal.process_incoming_ack-requires
 process_incoming_ack-requires c =
-    let all = same_queue c.args.state c.args.f.ssi c.seq_numbers-numbers.result c.args.f.ssi_type c.args.f.carrier
+    let same =
+    same_queue c.args.state c.args.f.ssi c.seq_numbers-numbers.result c.args.f.ssi_type c.args.f.carrier
     c.acknowledge-next.ensures
-    c.requires.state_value in record { n_messages_bound = all.0; state_value = all.1 }
+    c.requires.state_value
+    in record { n_messages_bound = same.0; state_value = same.1 }
 
 pub returns : goal.returns
 returns c =
     let n = c.seq_numbers-numbers in
     let a = c.args in
+    -- Question 7 was passed.
+    let row-there =
+    row-left a.state a.f a.bytes.now a.pdu a.sdu.now a.place a.len n.result n.ensures.result_value n.ensures.result_value_2
+    c.requires.state_value
+    (lengths a.state c.well_formed.0)
+    c.seq_row-row.ensures
+    c.if-row-ge256.false
+    in
     heard a.state a.f a.bytes.now a.pdu a.sdu.now a.place a.len n.result n.ensures.result_value n.ensures.result_value_2
     c.ack_place-i.ensures
-    (row-there c.before.before.before.before.before.before.before.before.before.before.before.before.before.before)
+    row-there
     c.if-numbers-state.false
     (sym c.may_finish.ensures ∙ not-false c.may_finish.result c.if-not-may_finish.false-raw)
     c.is_repeat-repeat.ensures

@@ -1,5 +1,4 @@
 use native.Mathlib.Omega.{arith}
-use mathlib.Core.Logic.{⊎_elim}
 use Rattle.bits.specs.Bits.{bits}
 use Rattle.llc_calls.specs.Decoded.{request_of}
 use Rattle.llc_state.proofs.InRange.{range-tells}
@@ -7,6 +6,7 @@ use Rattle.llc_state.proofs.Lengths.{lengths}
 use Rattle.llc_requests.proofs.Asked.{as-asked, refuses, data-6, data-7, data-8, data-acknowledged, data-full, data-plain, data-stolen, data-undue}
 use Rattle.llc_requests.proofs.Puts.{allowed}
 use Rattle.llc_requests.proofs.requests.rx_tla_tldata_req_bl.Goals as goal
+use Rattle.llc_requests.proofs.requests.rx_tla_tldata_req_bl.Goals.{then-steals+else-ack-state, else-steals}
 
 pub bounds-state-q : goal.bounds-state-q
 bounds-state-q c =
@@ -122,10 +122,11 @@ returns c =
     let r = request_of c.args.q c.args.bytes.now in
     let b = bits c.args.store.now in
     as-asked
-    (⊎_elim
-    (λ w.
-    data-undue r c.args.state b c.if-state-q.false c.if-q-steals.false c.if-state-ge32.false
-    w.0.taken w.1.ensures w.3.ensures w.4.left)
-    (λ w. data-plain r c.args.state b c.if-state-q.false c.if-q-steals.false c.if-state-ge32.false w.left)
-    c.if-steals.branch)
+    (elim c.if-steals.branch [
+      then-steals+else-ack-state w ↦
+          data-undue r c.args.state b c.if-state-q.false c.if-q-steals.false c.if-state-ge32.false
+          w.if-steals.true-raw w.preferred_carrier-carrier.ensures w.out_ack_if_any-ack.ensures w.if-ack-state.false
+      | else-steals w ↦
+          data-plain r c.args.state b c.if-state-q.false c.if-q-steals.false c.if-state-ge32.false w.if-steals.false-raw
+    ])
     c.put_unacknowledged-2.ensures

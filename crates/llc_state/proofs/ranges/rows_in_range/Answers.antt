@@ -1,4 +1,3 @@
-use Prim.Native.Nat.{◌-◌}
 use Rattle.lists.proofs.Asking.{begins, goes_on, fails, ends}
 use Rattle.llc_state.specs.Ranges.{row_in_range}
 use Rattle.llc_state.proofs.ranges.rows_in_range.Goals as goal
