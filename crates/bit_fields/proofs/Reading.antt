@@ -80,16 +80,3 @@ ends l first place n r p left c none =
     let z : left ≡ 0 = omega arith in
     let w = rw z at c.whole in
     omega (arith, w, mul-one r)
-
--- The last piece: all that is left, in the byte at p, with s bits behind it.
-pub closes :
-    (l : List ℕ) (first place n r p left s : ℕ)
-    → Reading l first place n r p left
-    → p % 8 + (left + s) ≡ 8
-    → first + p / 8 < length l
-    → 8 * first + place + n ≤ 8 * length l
-    → r * 2 ^ left + get_or l (first + p / 8) 0 / 2 ^ s % 2 ^ left ≡ value (part (bits l) (8 * first + place) n)
-closes l first place n r p left s c eight inside fits =
-    ends l first place n (r * 2 ^ left + get_or l (first + p / 8) 0 / 2 ^ s % 2 ^ left) (p + left) (left - left)
-    (goes_on l first place n r p left left s c (omega arith) eight inside fits)
-    (omega arith)

@@ -77,21 +77,3 @@ ends l₀ first place n v l p left c none =
     let all : n - left ≡ n = omega arith in
     c.so_far
     ∙ ap₂ (λ (k x : ℕ). splice (bits l₀) (8 * first + place) (to_bits k x)) all (ap (λ (k : ℕ). v / 2 ^ k) z ∙ omega arith)
-
--- The last piece: all that is left, in the byte at p, with s bits behind it.
-pub closes :
-    (l₀ : List ℕ) (first place n v : ℕ) (l : List ℕ) (p left s b : ℕ)
-    → Writing l₀ first place n v l p left
-    → p % 8 + (left + s) ≡ 8
-    → first + p / 8 < length l
-    → 8 * first + place + n ≤ 8 * length l₀
-    → to_bits 8 b ≡ to_bits (8 - (left + s)) (get_or l (first + p / 8) 0 / 2 ^ (left + s)) ++ (to_bits left v ++ to_bits s (get_or l (first + p / 8) 0))
-    → bits (set l (first + p / 8) b) ≡ splice (bits l₀) (8 * first + place) (to_bits n v)
-closes l₀ first place n v l p left s b c eight inside fits byte =
-    let old : ℕ = get_or l (first + p / 8) 0 in
-    let none : left - left ≡ 0 = sub_self left in
-    let all : v ≡ v / 2 ^ (left - left) = sym (ap (λ (k : ℕ). v / 2 ^ k) none ∙ omega arith) in
-    ends l₀ first place n v (set l (first + p / 8) b) (p + left) (left - left)
-    (goes_on l₀ first place n v l p left left s b c (omega arith) eight inside fits
-    (byte ∙ ap (λ (x : ℕ). to_bits (8 - (left + s)) (old / 2 ^ (left + s)) ++ (to_bits left x ++ to_bits s old)) all))
-    (omega arith)

@@ -1,8 +1,8 @@
-// The bits of one field in lent bytes, and a copy of many. A place counts bits from the first byte's highest. A field spans at
-// most 9 bytes: inside its reading and writing, places count from the field's first byte, as 16-bit numbers.
+// The bits of one field in lent bytes, and a copy of many. A place counts bits from the first byte's highest; inside one
+// field, places count from the field's first byte.
 #![tactic(auto)]
 
-ghost use Rattle.std.specs.Prelude.{◌+◌, ◌-◌, ◌*◌, ◌/◌, ◌%◌, ◌^◌, ◌≤◌, ◌<◌, ◌≡◌, ◌++◌, length, replicate};
+ghost use Rattle.std.specs.Prelude.{◌+◌, ◌-◌, ◌*◌, ◌/◌, ◌%◌, ◌^◌, ◌≤◌, ◌<◌, min, ◌≡◌, ◌++◌, length, replicate};
 ghost use Rattle.bits.specs.Bits.{to_bits, value, bits, part, splice};
 
 /// The number that n bits from a place on spell.
@@ -11,11 +11,11 @@ pub fn get(bytes: &[u8], at: usize, n: usize) -> u64
     requires n_bound_2 { at + n ≤ 8 * length bytes.now }
     ensures { result ≡ value (part (bits bytes.now) at n) }
 {
-    get_from(bytes, at / 8, (at % 8) as u16, n as u16)
+    get_from(bytes, at / 8, at % 8, n)
 }
 
-// The same for a field whose first byte and place in it are given: to the end of each byte, and what is left.
-fn get_from(bytes: &[u8], first: usize, place: u16, n: u16) -> u64
+// The same for a field whose first byte and place in it are given.
+fn get_from(bytes: &[u8], first: usize, place: usize, n: usize) -> u64
     requires place_bound { place < 8 }
     requires n_bound { n ≤ 64 }
     requires n_bound_2 { 8 * first + place + n ≤ 8 * length bytes.now }
@@ -24,18 +24,14 @@ fn get_from(bytes: &[u8], first: usize, place: u16, n: u16) -> u64
     let mut r: u64 = 0;
     let mut p = place;
     let mut left = n;
-    let mut room = 8 - place;
-    while room <= left {
-        r = joined(r, room, piece(bytes[first + (p / 8) as usize], 0, room));
-        p += room;
-        left -= room;
-        room = 8;
+    while 0 < left {
+        let room = 8 - p % 8;
+        let h = less(left, room);
+        r = joined(r, h, piece(bytes[first + p / 8], room - h, h));
+        p += h;
+        left -= h;
     }
-    if left == 0 {
-        return r;
-    }
-    let b = bytes[first + (p / 8) as usize];
-    joined(r, left, piece(b, room - left, left))
+    r
 }
 
 /// Puts n bits of v at a place.
@@ -44,11 +40,11 @@ pub fn put(bytes: &mut [u8], at: usize, n: usize, v: u64)
     requires n_bound_2 { at + n ≤ 8 * length bytes.old }
     ensures { bits bytes.new ≡ splice (bits bytes.old) at (to_bits n v) }
 {
-    put_from(bytes, at / 8, (at % 8) as u16, n as u16, v)
+    put_from(bytes, at / 8, at % 8, n, v)
 }
 
-// The same for a field whose first byte and place in it are given: to the end of each byte, and what is left.
-fn put_from(bytes: &mut [u8], first: usize, place: u16, n: u16, v: u64)
+// The same for a field whose first byte and place in it are given.
+fn put_from(bytes: &mut [u8], first: usize, place: usize, n: usize, v: u64)
     requires place_bound { place < 8 }
     requires n_bound { n ≤ 64 }
     requires n_bound_2 { 8 * first + place + n ≤ 8 * length bytes.old }
@@ -56,19 +52,14 @@ fn put_from(bytes: &mut [u8], first: usize, place: u16, n: u16, v: u64)
 {
     let mut p = place;
     let mut left = n;
-    let mut room = 8 - place;
-    while room <= left {
-        let q = first + (p / 8) as usize;
-        bytes[q] = replaced(bytes[q], 0, room, v >> (left - room));
-        p += room;
-        left -= room;
-        room = 8;
+    while 0 < left {
+        let room = 8 - p % 8;
+        let h = less(left, room);
+        let q = first + p / 8;
+        bytes[q] = replaced(bytes[q], room - h, h, v >> (left - h));
+        p += h;
+        left -= h;
     }
-    if left == 0 {
-        return;
-    }
-    let last = first + (p / 8) as usize;
-    bytes[last] = replaced(bytes[last], room - left, left, v);
 }
 
 /// Puts n times a bit at a place, by up to 64 at once.
@@ -81,12 +72,12 @@ pub fn fill(bytes: &mut [u8], at: usize, n: usize, bit: u64)
     let pattern = bit * 18_446_744_073_709_551_615;
     let mut p = at;
     let mut left = n;
-    while 64 < left {
-        put(bytes, p, 64, pattern);
-        p += 64;
-        left -= 64;
+    while 0 < left {
+        let h = less(left, 64);
+        put(bytes, p, h, pattern);
+        p += h;
+        left -= h;
     }
-    put(bytes, p, left, pattern);
 }
 
 /// Puts n bits of src from a place on at a place of dst: up to the next whole byte, whole bytes, and what is left.
@@ -126,7 +117,7 @@ pub fn copy_bytes(src: &[u8], from: usize, dst: &mut [u8], q: usize, k: usize)
     ensures { bits dst.new ≡ splice (bits dst.old) (8 * q) (part (bits src.now) from (8 * k)) }
 {
     let first = from / 8;
-    let s = (from % 8) as u16;
+    let s = from % 8;
     let mut i = 0;
     while i < k {
         dst[q + i] = byte_at(src, first + i, s);
@@ -135,7 +126,7 @@ pub fn copy_bytes(src: &[u8], from: usize, dst: &mut [u8], q: usize, k: usize)
 }
 
 // The eight bits from place s of byte q on.
-fn byte_at(bytes: &[u8], q: usize, s: u16) -> u8
+fn byte_at(bytes: &[u8], q: usize, s: usize) -> u8
     requires s_bound { s < 8 }
     requires s_bound_2 { 8 * q + s + 8 ≤ 8 * length bytes.now }
     ensures { to_bits 8 result ≡ part (bits bytes.now) (8 * q + s) 8 }
@@ -147,7 +138,7 @@ fn byte_at(bytes: &[u8], q: usize, s: u16) -> u8
 }
 
 // A byte with h bits of x in place of those above its s lowest.
-fn replaced(b: u8, s: u16, h: u16, x: u64) -> u8
+fn replaced(b: u8, s: usize, h: usize, x: u64) -> u8
     requires { h + s ≤ 8 }
     ensures { to_bits 8 result ≡ to_bits (8 - (h + s)) (b / 2 ^ (h + s)) ++ (to_bits h x ++ to_bits s b) }
 {
@@ -157,7 +148,7 @@ fn replaced(b: u8, s: u16, h: u16, x: u64) -> u8
 }
 
 // h bits of a byte, above its s lowest.
-fn piece(b: u8, s: u16, h: u16) -> u64
+fn piece(b: u8, s: usize, h: usize) -> u64
     requires { h + s ≤ 8 }
     ensures { result ≡ b / 2 ^ s % 2 ^ h }
 {
@@ -165,7 +156,7 @@ fn piece(b: u8, s: u16, h: u16) -> u64
 }
 
 // The h lowest bits of a number.
-fn lowest(x: u64, h: u16) -> u64
+fn lowest(x: u64, h: usize) -> u64
     requires { h ≤ 8 }
     ensures { result ≡ x % 2 ^ h }
 {
@@ -173,11 +164,17 @@ fn lowest(x: u64, h: u16) -> u64
 }
 
 // r, and h bits x behind it.
-fn joined(r: u64, h: u16, x: u64) -> u64
+fn joined(r: u64, h: usize, x: u64) -> u64
     requires h_bound { h ≤ 8 }
     requires h_bound_2 { r * 2 ^ h < 2 ^ 64 }
     requires x_bound { x < 2 ^ h }
     ensures { result ≡ r * 2 ^ h + x }
 {
     (r << h) | x
+}
+
+fn less(a: usize, b: usize) -> usize
+    ensures { result ≡ min a b }
+{
+    if a < b { a } else { b }
 }

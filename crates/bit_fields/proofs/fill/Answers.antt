@@ -1,4 +1,3 @@
-use Prim.Native.Nat.{◌+◌, ◌-◌}
 use native.Mathlib.Omega.{arith}
 use borrow.Author.Rules.{rules}
 use Rattle.bit_fields.proofs.Filling.{all64-fits, begins, goes_on, ends}
@@ -16,12 +15,11 @@ pub loop-left-preserved : goal.loop-left-preserved
 loop-left-preserved c =
     let a = c.args in
     let i = c.loop-left in
-    goes_on a.bytes.now a.at a.n a.bit i.bytes i.p i.left 64 _ i.invariant (omega arith) (omega arith) (omega arith) (omega arith) (search rules) c.put.ensures
+    let h = c.less-h.result in
+    goes_on a.bytes.now a.at a.n a.bit i.bytes i.p i.left h _ i.invariant (omega arith) (omega arith) (omega arith) (omega arith) (search rules) c.put.ensures
 
 pub returns : goal.returns
 returns c =
     let a = c.args in
     let i = c.loop-left in
-    let last =
-    goes_on a.bytes.now a.at a.n a.bit i.bytes i.p i.left i.left _ i.invariant (omega arith) (omega arith) (omega arith) (omega arith) (search rules) c.put-2.ensures in
-    ends a.bytes.now a.at a.n a.bit _ (i.p + i.left) (i.left - i.left) last (omega arith)
+    ends a.bytes.now a.at a.n a.bit i.bytes i.p i.left i.invariant (omega arith)

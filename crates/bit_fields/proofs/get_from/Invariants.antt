@@ -1,11 +1,9 @@
-use Prim.Native.Nat.{◌+◌, ◌%◌}
-use mathlib.Core.Path.{◌≡◌}
+use Rattle.bit_fields.proofs.Reading.{Reading}
 use Rattle.bit_fields.proofs.Reading.{Reading}
 use Rattle.bit_fields.proofs.get_from.Given as goal
 
--- From place p on its byte has room bits.
-abbrev pub invariant-loop-room : goal.invariant-loop-room
-invariant-loop-room l = Reading l.bytes l.first l.place l.n l.r l.p l.left × (l.p % 8 + l.room ≡ 8)
+abbrev pub invariant-loop-left : goal.invariant-loop-left
+invariant-loop-left l = Reading l.bytes l.first l.place l.n l.r l.p l.left
 
-abbrev pub decreases-loop-room : goal.decreases-loop-room
-decreases-loop-room l = l.left
+abbrev pub decreases-loop-left : goal.decreases-loop-left
+decreases-loop-left l = l.left

@@ -1,28 +1,21 @@
-use Prim.Native.Nat.{◌-◌}
+use Prim.Native.Nat.{◌-◌, ◌%◌}
 use native.Mathlib.Omega.{arith}
-use Rattle.bit_fields.proofs.Writing.{begins, goes_on, closes, ends}
+use Rattle.bit_fields.proofs.Writing.{begins, goes_on, ends}
 use Rattle.bit_fields.proofs.put_from.Goals as goal
 
-pub loop-room-init : goal.loop-room-init
-loop-room-init c =
-    let a = c.args in (begins a.bytes.now a.first a.place a.n a.v, omega arith)
+pub loop-left-init : goal.loop-left-init
+loop-left-init c =
+    let a = c.args in begins a.bytes.now a.first a.place a.n a.v
 
-pub loop-room-preserved : goal.loop-room-preserved
-loop-room-preserved c =
+pub loop-left-preserved : goal.loop-left-preserved
+loop-left-preserved c =
     let a = c.args in
-    let i = c.loop-room in (
-      goes_on a.bytes.now a.first a.place a.n a.v i.bytes i.p i.left i.room 0 c.replaced.result i.invariant.0 (omega arith) (omega arith) (omega (arith, i.invariant.0.total, i.invariant.0.long)) (omega arith) c.replaced.ensures,
-      omega (arith, i.invariant.1),
-    )
-
-pub returns-then-left-eq0 : goal.returns-then-left-eq0
-returns-then-left-eq0 c =
-    let a = c.args in
-    let i = c.loop-room in
-    ends a.bytes.now a.first a.place a.n a.v i.bytes i.p i.left i.invariant.0 (omega arith)
+    let i = c.loop-left in
+    let h = c.less-h.result in
+    goes_on a.bytes.now a.first a.place a.n a.v i.bytes i.p i.left h (8 - i.p % 8 - h) c.replaced.result i.invariant (omega arith) (omega arith) (omega (arith, i.invariant.total, i.invariant.long)) (omega arith) c.replaced.ensures
 
 pub returns : goal.returns
 returns c =
     let a = c.args in
-    let i = c.loop-room in
-    closes a.bytes.now a.first a.place a.n a.v i.bytes i.p i.left (i.room - i.left) c.replaced-2.result i.invariant.0 (omega arith) (omega (arith, i.invariant.0.total, i.invariant.0.long)) (omega arith) c.replaced-2.ensures
+    let i = c.loop-left in
+    ends a.bytes.now a.first a.place a.n a.v i.bytes i.p i.left i.invariant (omega arith)
