@@ -5,7 +5,7 @@ use Rattle.claims.proofs.bits.Goals as goal
 pub returns : goal.returns
 returns c =
     record {
-  value-to_bits = Laws.value-to_bits;
-  to_bits-value = Laws.to_bits-value;
-  bytes-by-bits = ByBits.bytes-by-bits;
-}
+      value-to_bits = Laws.value-to_bits;
+      to_bits-value = Laws.to_bits-value;
+      bytes-by-bits = ByBits.bytes-by-bits;
+    }

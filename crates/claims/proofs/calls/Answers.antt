@@ -4,5 +4,5 @@ use Rattle.claims.proofs.calls.Goals as goal
 pub returns : goal.returns
 returns c =
     record {
-  in-range = Laws.in-range;
-}
+      in-range = Laws.in-range;
+    }

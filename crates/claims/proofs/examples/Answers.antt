@@ -4,6 +4,6 @@ use Rattle.claims.proofs.examples.Goals as goal
 pub returns : goal.returns
 returns c =
     record {
-  examples = Examples.examples;
-  all-rows = Examples.all-rows;
-}
+      examples = Examples.examples;
+      all-rows = Examples.all-rows;
+    }

@@ -9,18 +9,18 @@ use Rattle.claims.proofs.pdus.Goals as goal
 pub returns : goal.returns
 returns c =
     record {
-  header-reads = Laws.header-reads;
-  reading-header = Laws.reading-header;
-  from-raw = Laws.from-raw;
-  raw-bits = Laws.raw-bits;
-  header-type = Laws.header-type;
-  header-ends = Laws.header-ends;
-  held-bits = Holding.held-bits;
-  reads-back = RoundTrip.reads-back;
-  sdu-back = RoundTrip.sdu-back;
-  received-back = CheckBits.received-back;
-  length-frame = Framing.length-frame;
-  frame-received = CheckBits.frame-received;
-  received-frame = CheckBits.received-frame;
-  held-sdu = HandedBack.held-sdu;
-}
+      header-reads = Laws.header-reads;
+      reading-header = Laws.reading-header;
+      from-raw = Laws.from-raw;
+      raw-bits = Laws.raw-bits;
+      header-type = Laws.header-type;
+      header-ends = Laws.header-ends;
+      held-bits = Holding.held-bits;
+      reads-back = RoundTrip.reads-back;
+      sdu-back = RoundTrip.sdu-back;
+      received-back = CheckBits.received-back;
+      length-frame = Framing.length-frame;
+      frame-received = CheckBits.frame-received;
+      received-frame = CheckBits.received-frame;
+      held-sdu = HandedBack.held-sdu;
+    }

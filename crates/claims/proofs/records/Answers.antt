@@ -4,5 +4,5 @@ use Rattle.claims.proofs.records.Goals as goal
 pub returns : goal.returns
 returns c =
     record {
-  write-is = Writes.write-is;
-}
+      write-is = Writes.write-is;
+    }

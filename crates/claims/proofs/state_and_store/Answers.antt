@@ -10,20 +10,20 @@ use Rattle.claims.proofs.state_and_store.Goals as goal
 pub returns : goal.returns
 returns c =
     record {
-  new_in = View.new_in;
-  started-in = View.started-in;
-  time-in = View.time-in;
-  new-in-range = View.new-in-range;
-  started-in-range = View.started-in-range;
-  time-in-range = View.time-in-range;
-  used-asked = InUse.used-asked;
-  used-seen = InUse.used-seen;
-  steps-not-started = NotStarted.steps-not-started;
-  steps-in = Steps.steps-in;
-  ready = Ready.ready;
-  steps-sane = Sane.steps-sane;
-  new-sane = Sane.new-sane;
-  free-place = Places.free-place;
-  part-there = Places.part-there;
-  frame-elsewhere = Places.frame-elsewhere;
-}
+      new_in = View.new_in;
+      started-in = View.started-in;
+      time-in = View.time-in;
+      new-in-range = View.new-in-range;
+      started-in-range = View.started-in-range;
+      time-in-range = View.time-in-range;
+      used-asked = InUse.used-asked;
+      used-seen = InUse.used-seen;
+      steps-not-started = NotStarted.steps-not-started;
+      steps-in = Steps.steps-in;
+      ready = Ready.ready;
+      steps-sane = Sane.steps-sane;
+      new-sane = Sane.new-sane;
+      free-place = Places.free-place;
+      part-there = Places.part-there;
+      frame-elsewhere = Places.frame-elsewhere;
+    }

@@ -8,11 +8,11 @@ use Rattle.claims.proofs.text.Goals as goal
 pub returns : goal.returns
 returns c =
     record {
-  finished-says = Feeding.finished-says;
-  scan-reads = Splitting.scan-reads;
-  scan-chunk = Splitting.scan-chunk;
-  wrote-shows = Writes.wrote-shows;
-  wrote-rest = Writes.wrote-rest;
-  round_trip = RoundTrip.round_trip;
-  record-lines = RecordLines.record-lines;
-}
+      finished-says = Feeding.finished-says;
+      scan-reads = Splitting.scan-reads;
+      scan-chunk = Splitting.scan-chunk;
+      wrote-shows = Writes.wrote-shows;
+      wrote-rest = Writes.wrote-rest;
+      round_trip = RoundTrip.round_trip;
+      record-lines = RecordLines.record-lines;
+    }
