@@ -198,7 +198,7 @@ here == "crates/claims" && /^use Rattle\.[a-z0-9_]+\.proofs\.[A-Za-z0-9.]+ as / 
     gsub(/\./, "/", names[2])
     alias[FILENAME, $4] = "crates/" names[1] "/proofs/" names[2] ".antt"
 }
-here == "crates/claims" && /^  [^ ]+ = [A-Za-z0-9]+\.[^ ]+;$/ {
+here == "crates/claims" && /^ +[^ ]+ = [A-Z][A-Za-z0-9]*\.[^ ]+;$/ {
     split($3, names, /[.;]/)
     again[alias[FILENAME, names[1]], names[2]] = 1
 }
