@@ -1,7 +1,7 @@
 # citations.awk FILES.. DOCUMENT: holds what the tables of docs/CLAIMS.md cite to the files of crates/, and prints a line "ok: .." or
 # "FAILED: .." for each citation. How a table cites, in its last column, in parts that end with "; ", ": " or ". ":
 #
-#   contract of `f`, `T::g`                  functions with a contract, of the crates that the section's head names;
+#   contract of `f`, `T::g`                  functions with a contract, of the crates that the section's head names (of an impl the type behind `for`);
 #   contract of `f` in crates/c src/f.rt     of a file, or of a crate, where that stands behind them
 #   contract, their contracts                the same of all names in the first column
 #   `a`, `b` in specs/F.antt                 definitions; "crates/c " in front, if it is not a crate of the head that has the file
@@ -205,12 +205,20 @@ here == "crates/claims" && /^ +[^ ]+ = [A-Z][A-Za-z0-9]*\.[^ ]+;$/ {
 kind == "antt" { next }
 
 # A function, and whether a contract stands between its head and its body.
-kind == "rt" && /^impl / { type = $2 }
-kind == "rt" && /^}/ { type = "" }
+kind == "rt" && /^impl / {
+    type = $2
+    if (match($0, / for [A-Za-z0-9_]+/))
+        type = substr($0, RSTART + 5, RLENGTH - 5)
+}
+kind == "rt" && /^}/ { type = given = "" }
+# A member that an impl gives its trait is the contract of the impl's functions.
+kind == "rt" && type != "" && /^ +ghost [a-z_]+ = / { given = 1 }
 kind == "rt" && /^ *(pub(\([a-z]+\))? )?(extern "C" )?fn / {
     of_function = $0
     sub(/^.*fn /, "", of_function)
     sub(/[(<].*/, "", of_function)
+    if (given)
+        contract[FILENAME, type "::" of_function] = contract[here, type "::" of_function] = 1
 }
 kind == "rt" && of_function != "" && /^ *ensures / {
     prefix = type != "" ? type : module

@@ -7,7 +7,7 @@ use mathlib.Core.List.{List, ◌++◌}
 use lib.ListN.{length, get_or, set, length-set}
 use lib.Pow.{pow_pos, high}
 use Rattle.bits.specs.Bits.{to_bits, bits, part, splice}
-use Rattle.bits.proofs.Laws.{length-bits, to_bits-append, to_bits-mod, to_bits-above, bits-part, bits-store, part-append, splice-none, splice-parts}
+use Rattle.bits.proofs.Laws.{length-bits, to_bits-append, to_bits-mod, to_bits-above, bits-part, bits-store, part-append, splice-parts}
 
 -- A byte at place 0.
 pub aligned : (l : List ℕ) (q : ℕ) → q < length l → to_bits 8 (get_or l q 0) ≡ part (bits l) (8 * q + 0) 8
@@ -46,9 +46,6 @@ pub record Copying (s : List ℕ) (from : ℕ) (d₀ : List ℕ) (q : ℕ) (k : 
   pub few : i ≤ k
   pub long : length d ≡ length d₀
   pub so_far : bits d ≡ splice (bits d₀) (8 * q) (part (bits s) from (8 * i))
-
-pub begins : (s : List ℕ) (from : ℕ) (d : List ℕ) (q k : ℕ) → Copying s from d q k d 0
-begins s from d q k = record { few = omega arith; long = refl; so_far = sym (splice-none (bits d) (8 * q)) }
 
 pub goes_on :
     (s : List ℕ) (from : ℕ) (d₀ : List ℕ) (q k : ℕ) (d : List ℕ) (i b : ℕ)

@@ -1,15 +1,10 @@
 -- Shifts inside 64 bits, as products and quotients of powers of two.
 use Prim.Native.Nat.{ℕ, ◌+◌, ◌*◌, ◌%◌, ◌^◌, ◌≤◌, ◌<◌}
-use native.Mathlib.Nat.{one-mul, mod-eq_of_lt, lt_of_lt_of_le}
-use native.Mathlib.Omega.{arith}
+use native.Mathlib.Nat.{mod-eq_of_lt, lt_of_lt_of_le}
 use mathlib.Core.Path.{◌≡◌, ◌∙◌, ap}
 use lib.Arith.{digits_lt}
 use lib.Bits.{bit_or, or_shifted}
-use lib.Pow.{pow-add, pow_mono, shl_exact, shl_lt}
-
--- 1 << h
-pub one_shifted : (h : ℕ) → h < 64 → (1 * 2 ^ h) % 2 ^ 64 ≡ 2 ^ h
-one_shifted h l = shl_exact 1 h 64 (omega arith) (omega arith) ∙ one-mul (2 ^ h)
+use lib.Pow.{pow-add, pow_mono, shl_lt}
 
 -- (r << h) | x
 pub shifted-or : (r h x : ℕ) → r * 2 ^ h < 2 ^ 64 → x < 2 ^ h → bit_or ((r * 2 ^ h) % 2 ^ 64) x ≡ r * 2 ^ h + x
@@ -22,3 +17,5 @@ shifted_fits p k t small fits = lt_of_lt_of_le (shl_lt p k small) (pow_mono fits
 -- t, and h bits x behind it.
 pub joined-below : (p h t x : ℕ) → t < 2 ^ p → x < 2 ^ h → t * 2 ^ h + x < 2 ^ (p + h)
 joined-below p h t x small low = rw (pow-add 2 p h) (digits_lt small low)
+
+pub ruleset shifts = (shifted-or, shifted_fits)

@@ -1,8 +1,8 @@
 -- A field that is read byte by byte: what was read and what is left spell the whole.
 use Prim.Native.Nat.{ℕ, ◌+◌, ◌-◌, ◌*◌, ◌/◌, ◌%◌, ◌^◌, ◌≤◌, ◌<◌}
-use native.Mathlib.Nat.{add-mul, mul_assoc, add_assoc, mod-lt, zero-mul, mul-one}
+use native.Mathlib.Nat.{add-mul, mul_assoc, add_assoc, mod-lt, mul-one}
 use native.Mathlib.Omega.{arith}
-use mathlib.Core.Path.{◌≡◌, ◌∙◌, refl, sym, ap, ap₂}
+use mathlib.Core.Path.{◌≡◌, ◌∙◌, sym, ap, ap₂}
 use mathlib.Core.List.{List, ◌++◌}
 use lib.ListN.{length, get_or}
 use lib.Pow.{pow-add, pow_pos}
@@ -16,9 +16,6 @@ pub record Reading (l : List ℕ) (first place n r p left : ℕ) : Type 0 where
   pub few : left ≤ n
   pub small : r < 2 ^ (n - left)
   pub whole : r * 2 ^ left + value (part (bits l) (8 * first + p) left) ≡ value (part (bits l) (8 * first + place) n)
-
-pub begins : (l : List ℕ) (first place n : ℕ) → Reading l first place n 0 place n
-begins l first place n = record { total = refl; few = omega arith; small = pow_pos (n - n); whole = omega (arith, zero-mul (2 ^ n)) }
 
 -- One more piece: h bits of the byte at p, with s behind them.
 pub goes_on :

@@ -2,7 +2,7 @@
 // field, places count from the field's first byte.
 #![tactic(auto)]
 
-ghost use Rattle.std.specs.Prelude.{◌+◌, ◌-◌, ◌*◌, ◌/◌, ◌%◌, ◌^◌, ◌≤◌, ◌<◌, min, ◌≡◌, ◌++◌, length, replicate};
+ghost use Rattle.std.specs.Prelude.{◌+◌, ◌-◌, ◌*◌, ◌/◌, ◌%◌, ◌^◌, ◌≤◌, ◌<◌, ◌≡◌, ◌++◌, length, replicate};
 ghost use Rattle.bits.specs.Bits.{to_bits, value, bits, part, splice};
 
 /// The number that n bits from a place on spell.
@@ -15,6 +15,7 @@ pub fn get(bytes: &[u8], at: usize, n: usize) -> u64
 }
 
 // The same for a field whose first byte and place in it are given.
+#[tactic(auto, using(crate::proofs::Reading::has_room))]
 fn get_from(bytes: &[u8], first: usize, place: usize, n: usize) -> u64
     requires place_bound { place < 8 }
     requires n_bound { n ≤ 64 }
@@ -24,9 +25,10 @@ fn get_from(bytes: &[u8], first: usize, place: usize, n: usize) -> u64
     let mut r: u64 = 0;
     let mut p = place;
     let mut left = n;
+    // A step takes the bits that are left in a byte: fewer in the first and in the last.
     while 0 < left {
         let room = 8 - p % 8;
-        let h = less(left, room);
+        let h = left.min(room);
         r = joined(r, h, piece(bytes[first + p / 8], room - h, h));
         p += h;
         left -= h;
@@ -52,9 +54,10 @@ fn put_from(bytes: &mut [u8], first: usize, place: usize, n: usize, v: u64)
 {
     let mut p = place;
     let mut left = n;
+    // A step takes the bits that are left in a byte: fewer in the first and in the last.
     while 0 < left {
         let room = 8 - p % 8;
-        let h = less(left, room);
+        let h = left.min(room);
         let q = first + p / 8;
         bytes[q] = replaced(bytes[q], room - h, h, v >> (left - h));
         p += h;
@@ -70,14 +73,11 @@ pub fn fill(bytes: &mut [u8], at: usize, n: usize, bit: u64)
     ensures { bits bytes.new ≡ splice (bits bytes.old) at (replicate n bit) }
 {
     let pattern = bit * 18_446_744_073_709_551_615;
-    let mut p = at;
-    let mut left = n;
-    while 0 < left {
-        let h = less(left, 64);
-        put(bytes, p, h, pattern);
-        p += h;
-        left -= h;
+    let whole = n / 64;
+    for i in 0..whole {
+        put(bytes, at + 64 * i, 64, pattern);
     }
+    put(bytes, at + 64 * whole, n - 64 * whole, pattern);
 }
 
 /// Puts n bits of src from a place on at a place of dst: up to the next whole byte, whole bytes, and what is left.
@@ -118,10 +118,8 @@ pub fn copy_bytes(src: &[u8], from: usize, dst: &mut [u8], q: usize, k: usize)
 {
     let first = from / 8;
     let s = from % 8;
-    let mut i = 0;
-    while i < k {
+    for i in 0..k {
         dst[q + i] = byte_at(src, first + i, s);
-        i += 1;
     }
 }
 
@@ -164,6 +162,7 @@ fn lowest(x: u64, h: usize) -> u64
 }
 
 // r, and h bits x behind it.
+#[tactic(auto, using(crate::proofs::Powers::shifts))]
 fn joined(r: u64, h: usize, x: u64) -> u64
     requires h_bound { h ≤ 8 }
     requires h_bound_2 { r * 2 ^ h < 2 ^ 64 }
@@ -171,10 +170,4 @@ fn joined(r: u64, h: usize, x: u64) -> u64
     ensures { result ≡ r * 2 ^ h + x }
 {
     (r << h) | x
-}
-
-fn less(a: usize, b: usize) -> usize
-    ensures { result ≡ min a b }
-{
-    if a < b { a } else { b }
 }

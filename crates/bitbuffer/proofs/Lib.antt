@@ -1,7 +1,5 @@
 pub mod Bounds
+pub mod Bytes
 pub mod Examples
-pub mod Growing
 pub mod Laws
-pub mod Peeking
-pub mod Signs
 pub mod Widths

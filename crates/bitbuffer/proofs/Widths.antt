@@ -64,3 +64,21 @@ end_is w n h =
 pub after_all-is : (w : BitBuffer) (n : ℕ) → w.pos ≤ w.end → after_all w (widths n) ≡ moved w (w.pos + n) (end_after_all w n)
 unfolding after_all widths
 after_all-is w n h = many w (n / 64) h (n % 64 ∷ []) ∙ same w (omega arith) (end_is w n h)
+
+-- Up to 64 bits are one width.
+one_end : (w : BitBuffer) (n : ℕ) → w.pos ≤ w.end → n ≤ 64 → end_after_all w n ≡ end_after w n
+unfolding end_after_all
+one_end w n high few =
+    let l : ℕ = w.end - w.pos in
+    let e : ℕ = w.end + 64 * (n / 64 - l / 64) in
+    by-leb (λ t. cond t w.end (e + cond (ltb (l % 64) (n % 64)) (n % 64) 0) ≡ end_after w n) n l
+    (λ inside. rw (le-leb (w.pos + n) w.end (omega arith)))
+    (λ more.
+    rw (lt-leb (w.pos + n) w.end (omega arith))
+    (by-leb (λ t. e + cond t (n % 64) 0 ≡ w.end + n) (suc (l % 64)) (n % 64) (λ h. omega arith) (λ h. omega arith)))
+
+pub one_width : (w : BitBuffer) (n : ℕ) → w.pos ≤ w.end → n ≤ 64 → after_all w (widths n) ≡ after w n
+one_width w n high few = after_all-is w n high ∙ ap (moved w (w.pos + n)) (one_end w n high few)
+
+-- The window after any write.
+pub ruleset growing = (after_all-is)

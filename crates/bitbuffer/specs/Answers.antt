@@ -1,40 +1,23 @@
--- What each answer says: document 01's number and the values, for each of its cases.
-use Rattle.std.specs.Prelude.{ℕ}
+-- What a peek and a read answer: document 01's number, or the value that was found.
+use Rattle.std.specs.Prelude.{ℕ, Option, Some, None, Result, Ok, Err}
 use Rattle.questions.specs.Outcome.{Outcome, accepted, refused}
+use Rattle.questions.specs.Refusals.{number_of}
+use Rattle.questions.specs.declared.Refusal.{Refusal}
 use Rattle.bitbuffer.specs.Reads as R
 use Rattle.bitbuffer.specs.declared.BitBuffer.{BitBuffer}
-use Rattle.bitbuffer.specs.declared.Windowed.{Windowed}
-use Rattle.bitbuffer.specs.declared.Counted.{Counted}
-use Rattle.bitbuffer.specs.declared.Peeked.{Peeked}
-use Rattle.bitbuffer.specs.declared.Read.{Read}
-use Rattle.bitbuffer.specs.declared.Written.{Written}
-use Rattle.bitbuffer.specs.declared.Windows.{Windows}
-use Rattle.bitbuffer.specs.declared.Copied.{Copied}
 
-abbrev pub windowed : Windowed → Outcome BitBuffer
-windowed (Windowed.To w) = accepted w
-windowed Windowed.OutOfRange = refused 5
+abbrev pub to_found : Option ℕ → R.Found
+to_found (Some v) = R.found v
+to_found None = R.Found.nothing
 
-abbrev pub counted : Counted → Outcome ℕ
-counted (Counted.Bits n) = accepted n
-counted Counted.OutOfRange = refused 5
+abbrev pub peeked : Result (Option ℕ) Refusal → Outcome R.Found
+peeked (Ok o) = accepted (to_found o)
+peeked (Err r) = refused (number_of r)
 
-abbrev pub peeked : Peeked → Outcome R.Found
-peeked (Peeked.Bits v) = accepted (R.found v)
-peeked Peeked.Nothing = accepted R.Found.nothing
-peeked Peeked.OutOfRange = refused 5
+abbrev pub to_got : Option (ℕ × BitBuffer) → R.Got
+to_got (Some p) = R.got p.0 p.1
+to_got None = R.Got.nothing
 
-abbrev pub read : Read → Outcome R.Got
-read (Read.Bits v w) = accepted (R.got v w)
-read Read.Nothing = accepted R.Got.nothing
-read Read.OutOfRange = refused 5
-
-abbrev pub written : Written → Outcome BitBuffer
-written (Written.To w) = accepted w
-written Written.OutOfRange = refused 5
-written Written.NoRoom = refused 8
-
-abbrev pub copied : Copied → Outcome Windows
-copied (Copied.To w) = accepted w
-copied Copied.OutOfRange = refused 5
-copied Copied.NoRoom = refused 8
+abbrev pub read : Result (Option (ℕ × BitBuffer)) Refusal → Outcome R.Got
+read (Ok o) = accepted (to_got o)
+read (Err r) = refused (number_of r)

@@ -5,18 +5,20 @@
 mod reads;
 mod writes;
 
-ghost use Rattle.std.specs.Prelude.{◌≡◌, ◌≤◌, leb, length};
+ghost use Rattle.std.specs.Prelude.{◌≡◌, ◌≤◌, ◌*◌, true, false, leb, length, OnOk, IfErr};
 ghost use Rattle.bits.specs.Bits.{bits};
 ghost use Rattle.questions.specs.Outcome.{accepted, ask};
+ghost use Rattle.questions.specs.Refusals.{outcome};
 ghost use Rattle.bitbuffer.specs.Window.{valid, reach as reach_of, with_pos, first_bits, all_bits, no_bits, len, remaining, position, sought, sought_by, start_set, pos_set, end_set};
+ghost use Rattle.questions.specs.declared.Refusal.{Refusal};
 ghost use Rattle.bitbuffer.specs.Steps.{ahead as ahead_of, back as back_of, stepped};
-ghost use Rattle.bitbuffer.specs.Answers.{windowed, counted};
 
 use bits::within;
+use questions::Refusal;
 
 /// A window over lent bits.
 #[repr(C)]
-#[derive(Clone, Copy)]
+#[derive(Clone, Copy, Debug, PartialEq, Eq)]
 pub struct BitBuffer {
     /// Bits before this are out of the window.
     pub start: usize,
@@ -28,59 +30,9 @@ pub struct BitBuffer {
     pub flag_autoexpand: bool,
 }
 
-/// A window, or that it would not lie inside the lent bytes (number 5).
-#[derive(Clone, Copy)]
-pub enum Windowed {
-    To(BitBuffer),
-    OutOfRange,
-}
-
-/// A number of bits, or that the window does not lie inside the lent bytes (number 5).
-#[derive(Clone, Copy)]
-pub enum Counted {
-    Bits(usize),
-    OutOfRange,
-}
-
-/// What a peek finds.
-#[derive(Clone, Copy)]
-pub enum Peeked {
-    /// The number that the bits spell.
-    Bits(u64),
-    /// Above 64 bits, or not all inside the window.
-    Nothing,
-    /// The window does not lie inside the lent bytes (number 5).
-    OutOfRange,
-}
-
-/// What a read gives.
-#[derive(Clone, Copy)]
-pub enum Read {
-    /// The number that the bits spell, and the window moved past them.
-    Bits(u64, BitBuffer),
-    /// Above 64 bits, or past the end.
-    Nothing,
-    /// The window does not lie inside the lent bytes (number 5).
-    OutOfRange,
-}
-
-/// What a write gives.
-#[derive(Clone, Copy)]
-pub enum Written {
-    /// The window moved past what was written.
-    To(BitBuffer),
-    /// The window does not lie inside the lent bytes, or the value does not fit (number 5).
-    OutOfRange,
-    /// No room before the end, or in the lent bytes where it expands (number 8).
-    NoRoom,
-}
-
-// The most that a position can be.
-const LAST: usize = 18_446_744_073_709_551_615;
-
 /// The two windows of a copy, moved past the bits that were copied.
 #[repr(C)]
-#[derive(Clone, Copy)]
+#[derive(Clone, Copy, Debug, PartialEq, Eq)]
 pub struct Windows {
     /// The window that was written.
     pub to: BitBuffer,
@@ -88,21 +40,11 @@ pub struct Windows {
     pub from: BitBuffer,
 }
 
-/// What a copy gives.
-#[derive(Clone, Copy)]
-pub enum Copied {
-    /// Both windows moved past what was copied.
-    To(Windows),
-    /// A window does not lie inside its lent bytes, or the source has too few bits left (number 5).
-    OutOfRange,
-    /// No room before the end, or in the lent bytes where it expands (number 8).
-    NoRoom,
-}
-
 impl BitBuffer {
     /// The first len_bits of the lent bits, which do not expand.
-    pub fn new(bytes: &[u8], len_bits: usize) -> Windowed
-        ensures { windowed result ≡ first_bits (bits bytes.now) len_bits }
+    #[tactic(auto, unfolding(crate::specs::Window::valid))]
+    pub fn new(bytes: &[u8], len_bits: usize) -> Result<BitBuffer, Refusal>
+        ensures { outcome result ≡ first_bits (bits bytes.now) len_bits }
     {
         BitBuffer {
             start: 0,
@@ -110,7 +52,7 @@ impl BitBuffer {
             end: len_bits,
             flag_autoexpand: false,
         }
-        .given(within(len_bits, bytes))
+        .checked(bytes)
     }
 
     /// All of the lent bits, which do not expand.
@@ -138,33 +80,27 @@ impl BitBuffer {
     }
 
     /// The bits from start to end.
-    pub fn get_len(self, bytes: &[u8]) -> Counted
-        ensures { counted result ≡ len self (bits bytes.now) }
+    pub fn get_len(self, bytes: &[u8]) -> Result<usize, Refusal>
+        ensures { outcome result ≡ len self (bits bytes.now) }
     {
-        if !self.is_valid(bytes) {
-            return Counted::OutOfRange;
-        }
-        Counted::Bits(self.end - self.start)
+        self.checked(bytes)?;
+        Ok(self.end - self.start)
     }
 
     /// The bits from the position to the end.
-    pub fn get_len_remaining(self, bytes: &[u8]) -> Counted
-        ensures { counted result ≡ remaining self (bits bytes.now) }
+    pub fn get_len_remaining(self, bytes: &[u8]) -> Result<usize, Refusal>
+        ensures { outcome result ≡ remaining self (bits bytes.now) }
     {
-        if !self.is_valid(bytes) {
-            return Counted::OutOfRange;
-        }
-        Counted::Bits(self.end - self.pos)
+        self.checked(bytes)?;
+        Ok(self.end - self.pos)
     }
 
     /// The bits from start to the position.
-    pub fn get_pos(self, bytes: &[u8]) -> Counted
-        ensures { counted result ≡ position self (bits bytes.now) }
+    pub fn get_pos(self, bytes: &[u8]) -> Result<usize, Refusal>
+        ensures { outcome result ≡ position self (bits bytes.now) }
     {
-        if !self.is_valid(bytes) {
-            return Counted::OutOfRange;
-        }
-        Counted::Bits(self.pos - self.start)
+        self.checked(bytes)?;
+        Ok(self.pos - self.start)
     }
 
     /// The start, counted from the first of the lent bits.
@@ -189,129 +125,110 @@ impl BitBuffer {
     }
 
     /// To a place counted from the start, up to the end.
-    pub fn seek(self, bytes: &[u8], offset: usize) -> Windowed
-        ensures { windowed result ≡ sought self (bits bytes.now) offset }
+    pub fn seek(self, bytes: &[u8], offset: usize) -> Result<BitBuffer, Refusal>
+        ensures { outcome result ≡ sought self (bits bytes.now) offset }
     {
-        if !self.is_valid(bytes) {
-            return Windowed::OutOfRange;
-        }
+        self.checked(bytes)?;
         self.at(self.start).ahead(offset)
     }
 
     /// To a place counted from the position, backwards where the offset is negative, from the start up to the end.
-    pub fn seek_rel(self, bytes: &[u8], offset: isize) -> Windowed
-        ensures { windowed result ≡ sought_by self (bits bytes.now) offset }
+    pub fn seek_rel(self, bytes: &[u8], offset: isize) -> Result<BitBuffer, Refusal>
+        ensures { outcome result ≡ sought_by self (bits bytes.now) offset }
     {
-        if !self.is_valid(bytes) {
-            return Windowed::OutOfRange;
-        }
+        self.checked(bytes)?;
         self.step(offset)
     }
 
     /// Another start, not past the position.
-    pub fn set_raw_start(self, bytes: &[u8], start: usize) -> Windowed
-        ensures { windowed result ≡ start_set self (bits bytes.now) start }
+    #[tactic(auto, unfolding(crate::specs::Window::valid))]
+    pub fn set_raw_start(self, bytes: &[u8], start: usize) -> Result<BitBuffer, Refusal>
+        ensures { outcome result ≡ start_set self (bits bytes.now) start }
     {
-        BitBuffer {
-            start,
-            pos: self.pos,
-            end: self.end,
-            flag_autoexpand: self.flag_autoexpand,
-        }
-        .given(self.is_valid(bytes) & (start <= self.pos))
+        self.checked(bytes)?;
+        BitBuffer { start, ..self }.checked(bytes)
     }
 
     /// Another position, from the start up to the end.
-    pub fn set_raw_pos(self, bytes: &[u8], pos: usize) -> Windowed
-        ensures { windowed result ≡ pos_set self (bits bytes.now) pos }
+    #[tactic(auto, unfolding(crate::specs::Window::valid))]
+    pub fn set_raw_pos(self, bytes: &[u8], pos: usize) -> Result<BitBuffer, Refusal>
+        ensures { outcome result ≡ pos_set self (bits bytes.now) pos }
     {
-        self.at(pos).given(self.is_valid(bytes) & ((self.start <= pos) & (pos <= self.end)))
+        self.checked(bytes)?;
+        self.at(pos).checked(bytes)
     }
 
     /// Another end, from the position up to the last of the lent bits.
-    pub fn set_raw_end(self, bytes: &[u8], end: usize) -> Windowed
-        ensures { windowed result ≡ end_set self (bits bytes.now) end }
+    #[tactic(auto, unfolding(crate::specs::Window::valid))]
+    pub fn set_raw_end(self, bytes: &[u8], end: usize) -> Result<BitBuffer, Refusal>
+        ensures { outcome result ≡ end_set self (bits bytes.now) end }
     {
-        BitBuffer {
-            start: self.start,
-            pos: self.pos,
-            end,
-            flag_autoexpand: self.flag_autoexpand,
-        }
-        .given(self.is_valid(bytes) & ((self.pos <= end) & within(end, bytes)))
+        self.checked(bytes)?;
+        BitBuffer { end, ..self }.checked(bytes)
     }
 
-    // The window, or number 5 where the answer is no.
-    fn given(self, ok: bool) -> Windowed
-        ensures { windowed result ≡ ask 5 ok (accepted self) }
+    // The window, or number 5 where it is not in order or not inside the lent bytes.
+    #[tactic(auto, using(crate::proofs::Bounds::lengths), unfolding(crate::specs::Window::valid))]
+    fn checked(self, bytes: &[u8]) -> Result<BitBuffer, Refusal>
+        ensures value { outcome result ≡ ask 5 (valid self (bits bytes.now)) (accepted self) }
+        ensures ok { OnOk result ((valid self (bits bytes.now) ≡ true) × (self.start ≤ self.pos) × (self.pos ≤ self.end) × (self.end ≤ 8 * length bytes.now)) }
+        ensures err { IfErr result (λ r. (valid self (bits bytes.now) ≡ false) × (r ≡ Refusal.OutOfRange)) }
     {
-        if !ok {
-            return Windowed::OutOfRange;
+        if self.start <= self.pos && self.pos <= self.end && within(self.end, bytes) {
+            Ok(self)
+        } else {
+            Err(Refusal::OutOfRange)
         }
-        Windowed::To(self)
     }
 
     // The window with another position.
     fn at(self, pos: usize) -> BitBuffer
         ensures { result ≡ with_pos self pos }
     {
-        BitBuffer {
-            start: self.start,
-            pos,
-            end: self.end,
-            flag_autoexpand: self.flag_autoexpand,
-        }
+        BitBuffer { pos, ..self }
     }
 
     // The window n bits on, up to the end.
-    fn ahead(self, n: usize) -> Windowed
+    fn ahead(self, n: usize) -> Result<BitBuffer, Refusal>
         requires { self.pos ≤ self.end }
-        ensures { windowed result ≡ ahead_of self n }
+        ensures { outcome result ≡ ahead_of self n }
     {
         if self.end - self.pos < n {
-            return Windowed::OutOfRange;
+            return Err(Refusal::OutOfRange);
         }
-        Windowed::To(self.at(self.pos + n))
+        Ok(self.at(self.pos + n))
     }
 
     // The window n bits back, down to the start.
-    fn back(self, n: usize) -> Windowed
+    fn back(self, n: usize) -> Result<BitBuffer, Refusal>
         requires { self.start ≤ self.pos }
-        ensures { windowed result ≡ back_of self n }
+        ensures { outcome result ≡ back_of self n }
     {
         if self.pos - self.start < n {
-            return Windowed::OutOfRange;
+            return Err(Refusal::OutOfRange);
         }
-        Windowed::To(self.at(self.pos - n))
+        Ok(self.at(self.pos - n))
     }
 
-    // The window by an offset with sign, from the start up to the end. It goes back by -1 - offset and one more, since the
-    // lowest offset has no negative.
-    fn step(self, offset: isize) -> Windowed
+    // The window by an offset with sign, from the start up to the end.
+    fn step(self, offset: isize) -> Result<BitBuffer, Refusal>
         requires start_le_pos { self.start ≤ self.pos }
         requires pos_le_end { self.pos ≤ self.end }
-        ensures { windowed result ≡ stepped self offset }
+        ensures { outcome result ≡ stepped self offset }
     {
+        let n = offset.unsigned_abs();
         if offset < 0 {
-            return self.back((-1 - offset) as usize + 1);
+            self.back(n)
+        } else {
+            self.ahead(n)
         }
-        self.ahead(offset as usize)
-    }
-
-    // Start, position and end in order and inside the lent bytes?
-    fn is_valid(self, bytes: &[u8]) -> bool
-        ensures { result ≡ valid self (bits bytes.now) }
-    {
-        (self.start <= self.pos) & (self.pos <= self.end) & within(self.end, bytes)
     }
 }
 
 // The lent bits that a position can reach.
+#[tactic(auto, using(crate::proofs::Bounds::lengths))]
 fn reach(bytes: &[u8]) -> usize
     ensures { result ≡ reach_of (bits bytes.now) }
 {
-    if LAST / 8 < bytes.len() {
-        return LAST;
-    }
-    8 * bytes.len()
+    bytes.len().saturating_mul(8)
 }

@@ -1,49 +1,54 @@
 // Writes: every question is asked first, and a refusal changes nothing.
-ghost use Rattle.std.specs.Prelude.{◌+◌, ◌*◌, ◌^◌, ◌≤◌, ◌<◌, ◌≡◌, true, ◌&&◌, leb, ltb, length, replicate};
+ghost use Rattle.std.specs.Prelude.{◌+◌, ◌*◌, ◌^◌, ◌≤◌, ◌<◌, ◌≡◌, ◌&&◌, leb, ltb, length, replicate, OnOk};
+ghost use Rattle.std.specs.Bool.{OnTrue};
 ghost use Rattle.bits.specs.Bits.{bits};
 ghost use Rattle.questions.specs.Effect.{effect};
-ghost use Rattle.bitbuffer.specs.Window.{valid, reach as reach_of};
+ghost use Rattle.questions.specs.Outcome.{accepted, ask};
+ghost use Rattle.questions.specs.Refusals.{outcome};
+ghost use Rattle.bitbuffer.specs.Window.{with_pos, with_end};
 ghost use Rattle.bitbuffer.specs.Writes.{room, widths, after_all, written as written_of, written_all, copied as copied_of, copied_from_pos};
-ghost use Rattle.bitbuffer.specs.Answers.{written, copied};
 
-use crate::{BitBuffer, Copied, Windows, Written, reach};
-use bit_fields::{copy, copy_bytes, fill, put};
+use crate::{BitBuffer, Windows, reach};
+use bit_fields::{copy, fill, put};
+use questions::Refusal;
 
 impl BitBuffer {
     /// Writes a value as up to 64 bits, which it fits, and moves the window past them.
-    pub fn write_bits(self, bytes: &mut [u8], value: u64, num_bits: usize) -> Written
-        ensures { effect (written result) (bits bytes.new) ≡ written_of self (bits bytes.old) value num_bits }
+    #[tactic(auto, using(crate::proofs::Widths::one_width))]
+    pub fn write_bits(
+        self,
+        bytes: &mut [u8],
+        value: u64,
+        num_bits: usize,
+    ) -> Result<BitBuffer, Refusal>
+        ensures { effect (outcome result) (bits bytes.new) ≡ written_of self (bits bytes.old) value num_bits }
     {
-        if !self.is_valid(bytes) {
-            return Written::OutOfRange;
-        }
+        self.checked(bytes)?;
         if !fits(value, num_bits) {
-            return Written::OutOfRange;
+            return Err(Refusal::OutOfRange);
         }
-        if !self.has_room(bytes, num_bits) {
-            return Written::NoRoom;
-        }
+        let after = self.after(bytes, num_bits)?;
         put(bytes, self.pos, num_bits, value);
-        Written::To(self.after(num_bits))
+        Ok(after)
     }
 
     /// Writes a bit, 0 or 1.
-    pub fn write_bit(self, bytes: &mut [u8], value: u8) -> Written
-        ensures { effect (written result) (bits bytes.new) ≡ written_of self (bits bytes.old) value 1 }
+    pub fn write_bit(self, bytes: &mut [u8], value: u8) -> Result<BitBuffer, Refusal>
+        ensures { effect (outcome result) (bits bytes.new) ≡ written_of self (bits bytes.old) value 1 }
     {
         self.write_bits(bytes, value as u64, 1)
     }
 
     /// Writes any number of zeroes.
-    pub fn write_zeroes(self, bytes: &mut [u8], num_bits: usize) -> Written
-        ensures { effect (written result) (bits bytes.new) ≡ written_all self (bits bytes.old) (replicate num_bits 0) }
+    pub fn write_zeroes(self, bytes: &mut [u8], num_bits: usize) -> Result<BitBuffer, Refusal>
+        ensures { effect (outcome result) (bits bytes.new) ≡ written_all self (bits bytes.old) (replicate num_bits 0) }
     {
         self.write_alike(bytes, num_bits, 0)
     }
 
     /// Writes any number of ones.
-    pub fn write_ones(self, bytes: &mut [u8], num_bits: usize) -> Written
-        ensures { effect (written result) (bits bytes.new) ≡ written_all self (bits bytes.old) (replicate num_bits 1) }
+    pub fn write_ones(self, bytes: &mut [u8], num_bits: usize) -> Result<BitBuffer, Refusal>
+        ensures { effect (outcome result) (bits bytes.new) ≡ written_all self (bits bytes.old) (replicate num_bits 1) }
     {
         self.write_alike(bytes, num_bits, 1)
     }
@@ -55,39 +60,29 @@ impl BitBuffer {
         source: BitBuffer,
         src: &[u8],
         num_bits: usize,
-    ) -> Copied
-        ensures { effect (copied result) (bits bytes.new) ≡ copied_of self (bits bytes.old) source (bits src.now) num_bits }
+    ) -> Result<Windows, Refusal>
+        ensures { effect (outcome result) (bits bytes.new) ≡ copied_of self (bits bytes.old) source (bits src.now) num_bits }
     {
-        if !self.is_valid(bytes) {
-            return Copied::OutOfRange;
-        }
-        if !source.has_left(src, num_bits) {
-            return Copied::OutOfRange;
-        }
-        if !self.has_room(bytes, num_bits) {
-            return Copied::NoRoom;
-        }
+        self.checked(bytes)?;
+        let from = source.checked(src)?.ahead(num_bits)?;
+        let to = self.after(bytes, num_bits)?;
         copy(src, source.pos, bytes, self.pos, num_bits);
-        let to = self.after(num_bits);
-        let from = source.at(source.pos + num_bits);
-        Copied::To(Windows { to, from })
+        Ok(Windows { to, from })
     }
 
     /// Copies the bytes that hold the bits from the position to the end, and gives a window over those bits there.
-    pub fn from_bitbuffer_pos(self, bytes: &[u8], out: &mut [u8]) -> Written
-        ensures { effect (written result) (bits out.new) ≡ copied_from_pos self (bits bytes.now) (bits out.old) }
+    pub fn from_bitbuffer_pos(self, bytes: &[u8], out: &mut [u8]) -> Result<BitBuffer, Refusal>
+        ensures { effect (outcome result) (bits out.new) ≡ copied_from_pos self (bits bytes.now) (bits out.old) }
     {
-        if !self.is_valid(bytes) {
-            return Written::OutOfRange;
-        }
+        self.checked(bytes)?;
         let first = self.pos / 8;
-        let count = self.end / 8 + (self.end % 8 + 7) / 8 - first;
+        let count = self.end.div_ceil(8) - first;
         if out.len() < count {
-            return Written::NoRoom;
+            return Err(Refusal::NoRoom);
         }
-        copy_bytes(bytes, 8 * first, out, 0, count);
+        out[..count].copy_from_slice(&bytes[first..first + count]);
         let start = self.pos % 8;
-        Written::To(BitBuffer {
+        Ok(BitBuffer {
             start,
             pos: start,
             end: start + (self.end - self.pos),
@@ -96,59 +91,43 @@ impl BitBuffer {
     }
 
     // Writes n times a bit.
-    fn write_alike(self, bytes: &mut [u8], n: usize, bit: u64) -> Written
+    fn write_alike(self, bytes: &mut [u8], n: usize, bit: u64) -> Result<BitBuffer, Refusal>
         requires { bit < 2 }
-        ensures { effect (written result) (bits bytes.new) ≡ written_all self (bits bytes.old) (replicate n bit) }
+        ensures { effect (outcome result) (bits bytes.new) ≡ written_all self (bits bytes.old) (replicate n bit) }
     {
-        if !self.is_valid(bytes) {
-            return Written::OutOfRange;
-        }
-        if !self.has_room(bytes, n) {
-            return Written::NoRoom;
-        }
+        self.checked(bytes)?;
+        let after = self.after(bytes, n)?;
         fill(bytes, self.pos, n, bit);
-        Written::To(self.after(n))
+        Ok(after)
     }
 
-    // Is the window valid, and has it n bits before its end?
-    fn has_left(self, bytes: &[u8], n: usize) -> bool
-        ensures value { result ≡ valid self (bits bytes.now) && leb (self.pos + n) self.end }
-        ensures within { result ≡ true → (self.pos + n ≤ 8 * length bytes.now) × (self.pos + n < 2 ^ 64) }
-    {
-        if !self.is_valid(bytes) {
-            return false;
-        }
-        n <= self.end - self.pos
-    }
-
-    // Is there room for n bits: before the end, or in the lent bytes where it expands?
-    fn has_room(self, bytes: &[u8], n: usize) -> bool
-        requires { valid self (bits bytes.now) ≡ true }
-        ensures value { result ≡ room self (bits bytes.now) (after_all self (widths n)).end }
-        ensures within { result ≡ true → (after_all self (widths n)).end ≤ reach_of (bits bytes.now) }
+    // The window after n bits are written, or number 8 where there is no room for them: before the end, or in the lent bytes
+    // where it expands.
+    #[tactic(auto, using(crate::proofs::Bounds::lengths))]
+    fn after(self, bytes: &[u8], n: usize) -> Result<BitBuffer, Refusal>
+        requires pos_le_end { self.pos ≤ self.end }
+        requires end_inside { self.end ≤ 8 * length bytes.now }
+        ensures value { outcome result ≡ ask 8 (room self (bits bytes.now) (after_all self (widths n)).end) (accepted (after_all self (widths n))) }
+        ensures within { OnOk result ((self.pos + n ≤ 8 * length bytes.now) × (self.pos + n < 2 ^ 64)) }
     {
         let more = self.growth(n);
-        (more == 0) | (self.flag_autoexpand & (more <= reach(bytes) - self.end))
-    }
-
-    // The window after n bits are written.
-    fn after(self, n: usize) -> BitBuffer
-        requires pos_le_end { self.pos ≤ self.end }
-        requires n_bound { (after_all self (widths n)).end < 2 ^ 64 }
-        ensures { result ≡ after_all self (widths n) }
-    {
-        BitBuffer {
-            start: self.start,
-            pos: self.pos + n,
-            end: self.end + self.growth(n),
-            flag_autoexpand: self.flag_autoexpand,
+        if more == 0 || self.flag_autoexpand && more <= reach(bytes) - self.end {
+            Ok(BitBuffer {
+                pos: self.pos + n,
+                end: self.end + more,
+                ..self
+            })
+        } else {
+            Err(Refusal::NoRoom)
         }
     }
 
     // How far a write of n bits moves the end: by each width of 64 and by what is left after them, where that crosses it.
+    #[tactic(auto, using(crate::proofs::Widths::growing), unfolding(crate::proofs::Widths::end_after_all))]
     fn growth(self, n: usize) -> usize
         requires { self.pos ≤ self.end }
-        ensures { self.end + result ≡ (after_all self (widths n)).end }
+        ensures value { after_all self (widths n) ≡ with_end (with_pos self (self.pos + n)) (self.end + result) }
+        ensures reached { self.pos + n ≤ self.end + result }
     {
         let left = self.end - self.pos;
         if n <= left {
@@ -164,7 +143,8 @@ impl BitBuffer {
 
 // Does a value fit into so many bits, and are they at most 64?
 fn fits(value: u64, num_bits: usize) -> bool
-    ensures { result ≡ leb num_bits 64 && ltb value (2 ^ num_bits) }
+    ensures value { result ≡ leb num_bits 64 && ltb value (2 ^ num_bits) }
+    ensures few { OnTrue result (num_bits ≤ 64) }
 {
     if 64 <= num_bits {
         return num_bits == 64;

@@ -1,3 +1,4 @@
 pub mod Laws
 pub mod Bytes
 pub mod ByBits
+pub mod PartLaws

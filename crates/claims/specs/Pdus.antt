@@ -1,5 +1,5 @@
 -- PDUs (llc_pdus).
-use Rattle.std.specs.Prelude.{ℕ, ◌%◌, ◌*◌, ◌+◌, ◌<◌, ◌≤◌, ◌≡◌, List, ◌++◌, length, take}
+use Rattle.std.specs.Prelude.{ℕ, ◌%◌, ◌*◌, ◌+◌, ◌<◌, ◌≤◌, ◌≡◌, List, ◌++◌, length, take, Ok}
 use Rattle.questions.specs.Outcome.{accepted}
 use Rattle.bits.specs.Bits.{AllBits, bits, part, splice, value}
 use Rattle.llc_pdus.specs.Answers.{answered, read_from}
@@ -10,7 +10,6 @@ use Rattle.llc_pdus.specs.Types.{first_bits, from_raw, raw, type_of}
 use Rattle.llc_pdus.specs.Sdus.{header_end, holding}
 use Rattle.llc_pdus.specs.Writes.{frame}
 use Rattle.llc_pdus.specs.declared.Pdu.{Pdu}
-use Rattle.llc_pdus.specs.declared.Read.{Read}
 use Rattle.llc_pdus.specs.declared.Sdu.{Sdu}
 use Rattle.llc_pdus.specs.declared.llc_pdu_type.LlcPduType.{LlcPduType}
 
@@ -55,6 +54,6 @@ pub record Pdus : Type 0 where
   -- The bytes handed back of a frame that was read hold what it is received as.
   pub held-sdu :
       (f : List ℕ) (n : ℕ) (p : Pdu) (s : Sdu)
-      → answered (Read.Frame p s) ≡ read_from (bits f) n
+      → answered (Ok (p, s)) ≡ read_from (bits f) n
       → received (take n (bits f))
       ≡ accepted (record { header = p; sdu = part (bits (holding f s.first s.len)) s.place s.len })

@@ -4,11 +4,12 @@ use native.Mathlib.Nat.{mod-eq_of_lt}
 use native.Mathlib.Omega.{arith}
 use mathlib.Core.Path.{◌≡◌, ◌∙◌, refl, sym, ap}
 use mathlib.Core.List.{List, [], ◌++◌, append_assoc}
-use lib.ListN.{length, length-append, replicate}
+use lib.ListN.{length, take, drop, length-append, take-append-drop, replicate}
 use lib.Bits.{bit_xor, xor_lt}
-use Rattle.bits.specs.Bits.{to_bits, value, bits, part, AllBits}
-use Rattle.bits.proofs.Laws.{length-to_bits, to_bits-append, to_bits-mod, value-to_bits, all-to_bits, all_append, value-below, to_bits-value, part-append}
-use Rattle.bits.proofs.Bytes.{all-zeros, all-part, shifted}
+use lib.Seq.{take-add}
+use Rattle.bits.specs.Bits.{to_bits, value, part, AllBits}
+use Rattle.bits.proofs.Laws.{length-to_bits, to_bits-append, to_bits-mod, value-to_bits, all-to_bits, all_append, all_take, all_drop, value-below, to_bits-value}
+use Rattle.bits.proofs.Bytes.{all-zeros, shifted}
 use Rattle.fcs.specs.Polynomials.{plus, rest}
 use Rattle.fcs.specs.Register.{fed, entry}
 use Rattle.fcs.proofs.Division.{plus_comm, plus_assoc, to_bits-xor, rest-zero, rest-plus, rest-add, length-plus, length_rest, all-plus, all_rest, zeros-plus, plus-zeros, plus-append, rest-head}
@@ -137,9 +138,12 @@ fed-step j k crc v e =
     ∙ value-to_bits 32 (bit_xor (x % 2 ^ 32) (entry k q))
     ∙ mod-eq_of_lt (xor_lt 32 (x % 2 ^ 32) (entry k q) (omega arith) (entry_lt k q))
 
--- k bits more of a part are fed after those before them.
-pub fed-more : (crc : ℕ) (l : List ℕ) (at i k : ℕ)
-    → fed crc (part (bits l) at (i + k)) ≡ fed (fed crc (part (bits l) at i)) (part (bits l) (at + i) k)
-fed-more crc l at i k =
-    rw (part-append (bits l) at i k)
-    (fed-append crc (part (bits l) at i) (part (bits l) (at + i) k) (all-part l at i) (all-part l (at + i) k))
+-- A message in two parts; k bits more are fed after those before them.
+pub fed-cut : (crc : ℕ) (m : List ℕ) (i : ℕ) → AllBits m → fed crc m ≡ fed (fed crc (take i m)) (drop i m)
+fed-cut crc m i h =
+    ap (fed crc) (sym (take-append-drop i m)) ∙ fed-append crc (take i m) (drop i m) (all_take i m h) (all_drop i m h)
+
+pub fed-more : (crc : ℕ) (m : List ℕ) (i k : ℕ) → AllBits m → fed crc (take (i + k) m) ≡ fed (fed crc (take i m)) (part m i k)
+fed-more crc m i k h =
+    rw (take-add i k m)
+    (fed-append crc (take i m) (part m i k) (all_take i m h) (all_take k (drop i m) (all_drop i m h)))

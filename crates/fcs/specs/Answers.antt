@@ -1,27 +1,12 @@
--- What the functions on a lent part answer, with document 01's number for each case.
+-- The questions that the functions on a lent part put, with document 01's number for each case.
 use Rattle.std.specs.Prelude.{ℕ, ◌+◌, ◌-◌, List, leb, eqb, length}
 use Rattle.bits.specs.Bits.{value, part}
-use Rattle.questions.specs.Outcome.{Outcome, accepted, refused, ask}
+use Rattle.questions.specs.Outcome.{Outcome, accepted, ask}
 use Rattle.fcs.specs.Fcs.{fcs_bits, fcs}
-use Rattle.fcs.specs.declared.Fcs as FcsModule
-use Rattle.fcs.specs.declared.Fcs.TheVariants.{Sum}
-use Rattle.fcs.specs.declared.Checked.{Checked}
-use Rattle.fcs.specs.declared.Checked.TheVariants.{Right, Wrong}
-
--- What an `Fcs` says: the 32 check bits as a number, or number 5.
-abbrev pub summed : FcsModule.Fcs → Outcome ℕ
-summed (Sum n) = accepted n
-summed FcsModule.Fcs.OutOfRange = refused 5
 
 -- The check bits of n bits of l from a place on, as a number: question 5 asks whether they lie inside l.
 abbrev pub computed : List ℕ → ℕ → ℕ → Outcome ℕ
 computed l at n = ask 5 (leb (at + n) (length l)) (accepted (value (fcs (part l at n))))
-
--- What a `Checked` says.
-abbrev pub checked : Checked → Outcome (Unit {0})
-checked Right = accepted tt
-checked Wrong = refused 12
-checked Checked.OutOfRange = refused 5
 
 -- Question 12 of n bits of l from a place on: at least 32 are left, and the last 32 are the check bits of those before them.
 abbrev pub check : List ℕ → ℕ → ℕ → Outcome (Unit {0})

@@ -1,29 +1,16 @@
 // The frame check sequence, from tetra-entities' llc/components/fcs.rs, over the bits of a lent part of a frame.
 #![tactic(auto)]
 
-ghost use Rattle.std.specs.Prelude.{◌≡◌, ◌+◌, ◌*◌, ◌≤◌, ◌<◌, leb, length};
+ghost use Rattle.std.specs.Prelude.{◌≡◌, ◌+◌, ◌*◌, ◌≤◌, ◌<◌};
 ghost use Rattle.bits.specs.Bits.{to_bits, value, bits, part as cut};
+ghost use Rattle.bits.specs.Parts.{bits_of};
+ghost use Rattle.questions.specs.Refusals.{outcome};
 ghost use Rattle.fcs.specs.Fcs.{start, fcs};
 ghost use Rattle.fcs.specs.Register.{fed, Ruled};
-ghost use Rattle.fcs.specs.Answers.{summed, computed, checked, check};
+ghost use Rattle.fcs.specs.Answers.{computed, check};
 
-/// The check bits as a number, or that the bits asked for lie outside the part (number 5).
-#[derive(Clone, Copy)]
-pub enum Fcs {
-    Sum(u32),
-    OutOfRange,
-}
-
-/// Whether the last 32 bits are the check bits of those before them.
-#[derive(Clone, Copy)]
-pub enum Checked {
-    /// They are.
-    Right,
-    /// They are not, or fewer than 32 bits are there (number 12).
-    Wrong,
-    /// The bits asked for lie outside the part (number 5).
-    OutOfRange,
-}
+use bits::Part;
+use questions::Refusal;
 
 /// How many check bits there are.
 pub const FCS_BITS: usize = 32;
@@ -67,21 +54,14 @@ const TABLE: [u32; 256] = [
 // The divisor below its highest coefficient.
 const DIVISOR: u32 = 0x04C11DB7;
 
-// Do len bits from at on lie inside the part? In bytes, since at + len need not fit.
-fn inside(part: &[u8], at: usize, len: usize) -> bool
-    ensures { result ≡ leb (at + len) (length (bits part.now)) }
-{
-    at / 8 + len / 8 + (at % 8 + len % 8 + 7) / 8 <= part.len()
-}
-
-// The bit i places after at.
-fn bit_at(part: &[u8], at: usize, i: usize) -> u32
-    requires { at + i < length (bits part.now) }
+// Bit i of the part.
+fn bit_at(part: Part, i: usize) -> u32
+    requires { i < part.len }
     ensures upper_bound { result < 2 }
-    ensures result_value { to_bits 1 result ≡ cut (bits part.now) (at + i) 1 }
+    ensures result_value { to_bits 1 result ≡ cut (bits_of part.entry) i 1 }
 {
-    let over = at % 8 + i % 8;
-    let byte = part[at / 8 + i / 8 + over / 8] as u32;
+    let over = part.place + i % 8;
+    let byte = part.bytes[i / 8 + over / 8] as u32;
     (byte >> (7 - over % 8)) % 2
 }
 
@@ -102,52 +82,42 @@ fn started(len: usize) -> u32
     ensures { to_bits 32 result ≡ start len }
 {
     let ones: u32 = 0xFFFFFFFF;
-    if len == 0 {
-        return ones;
-    }
-    if 32 <= len {
+    if len == 0 || 32 <= len {
         return ones;
     }
     ones << (32 - len)
 }
 
 // The bits of the part, one by one, into the 32 bits that are carried.
-fn fed_bits(part: &[u8], at: usize, len: usize, crc: u32) -> u32
-    requires { at + len ≤ length (bits part.now) }
-    ensures { result ≡ fed crc (cut (bits part.now) at len) }
+fn fed_bits(part: Part, crc: u32) -> u32
+    ensures { result ≡ fed crc (bits_of part.entry) }
 {
     let mut carried = crc;
-    let mut i = 0;
-    while i < len {
-        carried = fed_bit(carried, bit_at(part, at, i));
-        i += 1;
+    for i in 0..part.len {
+        carried = fed_bit(carried, bit_at(part, i));
     }
     carried
 }
 
 /// The check bits of len bits from at on, bit by bit: the plain form of compute_fcs.
-pub fn compute_fcs_by_bits(part: &[u8], at: usize, len: usize) -> Fcs
-    ensures { summed result ≡ computed (bits part.now) at len }
+pub fn compute_fcs_by_bits(part: &[u8], at: usize, len: usize) -> Result<u32, Refusal>
+    ensures { outcome result ≡ computed (bits part.now) at len }
 {
-    if !inside(part, at, len) {
-        return Fcs::OutOfRange;
-    }
-    Fcs::Sum(!fed_bits(part, at, len, started(len)))
+    Ok(!fed_bits(Part::new(part, at, len)?, started(len)))
 }
 
-// Eight bits from place s of the byte q on.
-fn byte_at(part: &[u8], q: usize, s: usize) -> u32
-    requires s_bound { s < 8 }
-    requires s_in_bounds { 8 * q + s + 8 ≤ length (bits part.now) }
+// Byte i of the part, counted from its first bit on.
+fn byte_at(part: Part, i: usize) -> u32
+    requires { 8 * i + 8 ≤ part.len }
     ensures upper_bound { result < 256 }
-    ensures result_value { to_bits 8 result ≡ cut (bits part.now) (8 * q + s) 8 }
+    ensures result_value { to_bits 8 result ≡ cut (bits_of part.entry) (8 * i) 8 }
 {
-    let first = part[q] as u32;
-    if s == 0 {
+    let first = part.bytes[i] as u32;
+    if part.place == 0 {
         return first;
     }
-    let two = first * 256 + part[q + 1] as u32;
-    (two >> (8 - s)) % 256
+    let two = first * 256 + part.bytes[i + 1] as u32;
+    (two >> (8 - part.place)) % 256
 }
 
 // One more byte into the 32 bits that are carried.
@@ -159,73 +129,59 @@ fn fed_byte(crc: u32, byte: u32, table: &[u32; 256]) -> u32
     (crc << 8) ^ table[((crc >> 24) ^ byte) as usize]
 }
 
-// n bytes from place s of the byte q on, one by one, into the 32 bits that are carried.
-fn fed_bytes(part: &[u8], q: usize, s: usize, n: usize, crc: u32, table: &[u32; 256]) -> u32
-    requires s_bound { s < 8 }
-    requires n_in_bounds { 8 * q + s + 8 * n ≤ length (bits part.now) }
+// The n bytes of the part, one by one, into the 32 bits that are carried.
+fn fed_bytes(part: Part, n: usize, crc: u32, table: &[u32; 256]) -> u32
+    requires whole { part.len ≡ 8 * n }
     requires ruled { Ruled table.now }
-    ensures { result ≡ fed crc (cut (bits part.now) (8 * q + s) (8 * n)) }
+    ensures { result ≡ fed crc (bits_of part.entry) }
 {
     let mut carried = crc;
-    let mut i = 0;
-    while i < n {
-        carried = fed_byte(carried, byte_at(part, q + i, s), table);
-        i += 1;
+    for i in 0..n {
+        carried = fed_byte(carried, byte_at(part, i), table);
     }
     carried
 }
 
-// The check bits of len bits from at on: the first of them until whole bytes are left, then these.
-fn sum_of(part: &[u8], at: usize, len: usize) -> u32
-    requires { at + len ≤ length (bits part.now) }
-    ensures { result ≡ value (fcs (cut (bits part.now) at len)) }
+/// The check bits of a part: its first bits until whole bytes are left, then these.
+pub fn sum_of(part: Part) -> u32
+    ensures { result ≡ value (fcs (bits_of part.entry)) }
 {
-    let first = len % 8;
-    let crc = fed_bits(part, at, first, started(len));
-    let over = at % 8 + first;
+    let first = part.len % 8;
+    let crc = fed_bits(part.before(first), started(part.len));
     let table = TABLE;
-    !fed_bytes(part, at / 8 + over / 8, over % 8, len / 8, crc, &table)
+    !fed_bytes(part.behind(first), part.len / 8, crc, &table)
 }
 
-// The 32 bits from i places after at on, as a number.
-fn word_at(part: &[u8], at: usize, i: usize) -> u32
-    requires { at + i + 32 ≤ length (bits part.now) }
-    ensures { result ≡ value (cut (bits part.now) (at + i) 32) }
+// The 32 bits of a part, as a number.
+fn word_of(part: Part) -> u32
+    requires { part.len ≡ 32 }
+    ensures { result ≡ value (bits_of part.entry) }
 {
-    let over = at % 8 + i % 8;
-    let q = at / 8 + i / 8 + over / 8;
-    let s = over % 8;
-    let a = byte_at(part, q, s);
-    let b = byte_at(part, q + 1, s);
-    let c = byte_at(part, q + 2, s);
-    let d = byte_at(part, q + 3, s);
+    let a = byte_at(part, 0);
+    let b = byte_at(part, 1);
+    let c = byte_at(part, 2);
+    let d = byte_at(part, 3);
     ((a * 256 + b) * 256 + c) * 256 + d
 }
 
 /// The check bits of len bits from at on.
-pub fn compute_fcs(part: &[u8], at: usize, len: usize) -> Fcs
-    ensures { summed result ≡ computed (bits part.now) at len }
+pub fn compute_fcs(part: &[u8], at: usize, len: usize) -> Result<u32, Refusal>
+    ensures { outcome result ≡ computed (bits part.now) at len }
 {
-    if !inside(part, at, len) {
-        return Fcs::OutOfRange;
-    }
-    Fcs::Sum(sum_of(part, at, len))
+    Ok(sum_of(Part::new(part, at, len)?))
 }
 
 /// Are the last 32 of len bits from at on the check bits of those before them?
-pub fn check_fcs(part: &[u8], at: usize, len: usize) -> Checked
-    ensures { checked result ≡ check (bits part.now) at len }
+pub fn check_fcs(part: &[u8], at: usize, len: usize) -> Result<(), Refusal>
+    ensures { outcome result ≡ check (bits part.now) at len }
 {
-    if !inside(part, at, len) {
-        return Checked::OutOfRange;
-    }
+    let part = Part::new(part, at, len)?;
     if len < FCS_BITS {
-        return Checked::Wrong;
+        return Err(Refusal::WrongCheck);
     }
     let before = len - FCS_BITS;
-    if sum_of(part, at, before) == word_at(part, at, before) {
-        Checked::Right
-    } else {
-        Checked::Wrong
+    if sum_of(part.before(before)) != word_of(part.behind(before)) {
+        return Err(Refusal::WrongCheck);
     }
+    Ok(())
 }

@@ -1,9 +1,9 @@
 -- What the value of a digit is.
 use Prim.Native.Nat.{ℕ, ◌+◌, ◌-◌, ◌≤◌, ◌<◌}
 use native.Mathlib.Omega.{arith}
-use mathlib.Core.Path.{◌≡◌, ◌∙◌, refl, ap}
+use mathlib.Core.Path.{◌≡◌, ◌∙◌, ap}
 use mathlib.Core.Bool.{true}
-use mathlib.Core.Option.{Option, none, some, get_or}
+use mathlib.Core.Option.{Option, none, some}
 use borrow.Author.Tests.{leb-true, ltb-true, ltb-false, le-leb, lt-leb}
 use lib.Dec.{leb, ltb}
 use Rattle.lists.proofs.Choices.{by-choice, both}
@@ -27,15 +27,6 @@ digit-below c =
     by-choice Below (among 97 102 c)
     (λ u. let r = within 97 102 c u in omega arith)
     (λ u. by-choice Below (among 65 70 c) (λ w. let r = within 65 70 c w in omega arith) (λ w. tt)))
-
--- 16 stands for no value.
-pub no_value : (o : Option ℕ) → Below o → 16 ≤ get_or o 16 → o ≡ none
-no_value none b h = refl
-no_value (some v) b h = absurd (omega arith)
-
-pub has_value : (o : Option ℕ) → get_or o 16 < 16 → o ≡ some (get_or o 16)
-has_value none h = absurd (omega arith)
-has_value (some v) h = refl
 
 -- The characters '0' to '9' and 'a' to 'f'.
 decimal : (c : ℕ) → 48 ≤ c → c ≤ 57 → digit c ≡ some (c - 48)

@@ -14,7 +14,8 @@ use Rattle.hex_lines.specs.Lines.{most, most_bytes, digit, joined, bytes_of, cal
 use Rattle.hex_lines.specs.Gathering.{Gathered, fresh, spoiled, longer, pushed, feed_value, feed_of, begun_of, odd, finished_of, said, call_length}
 use Rattle.hex_lines.specs.Fed.{some_in, onto, resumed, Good, Hopeless, Fed}
 use Rattle.hex_lines.specs.declared.Line.{Line}
-use Rattle.hex_lines.specs.declared.Finished.{Finished}
+use Rattle.questions.specs.declared.Refusal.{Refusal}
+use Rattle.std.specs.Prelude.{Result}
 use Rattle.hex_lines.proofs.Digits.{Below, digit-below}
 
 -- ---- one more digit
@@ -231,7 +232,7 @@ third {x = false} {y = false} {z} t a b = t
 pub finished-says : {cs : List ℕ} {l : Line} {bs : List ℕ} → Fed cs l bs → call_in cs ≡ said (finished_of l) bs
 unfolding finished_of
 finished-says {cs} {l} {bs} f =
-    by-choice (λ (a : Finished). call_in cs ≡ said a bs) (l.bad || ltb most l.digits || odd l.digits)
+    by-choice (λ (a : Result ℕ Refusal). call_in cs ≡ said a bs) (l.bad || ltb most l.digits || odd l.digits)
     (λ t.
     by-test l.bad
     (λ b. ap call_in (sym (append-nil cs)) ∙ f.bad b [])
@@ -246,7 +247,7 @@ finished-says {cs} {l} {bs} f =
 pub finished-few : (l : Line) → call_length (finished_of l) ≤ most_bytes
 unfolding finished_of
 finished-few l =
-    by-choice (λ (a : Finished). call_length a ≤ most_bytes) (l.bad || ltb most l.digits || odd l.digits)
+    by-choice (λ (a : Result ℕ Refusal). call_length a ≤ most_bytes) (l.bad || ltb most l.digits || odd l.digits)
     (λ t. omega arith)
     (λ t.
     let u = neither {x = l.bad || ltb most l.digits} {y = odd l.digits} t in

@@ -1,7 +1,6 @@
 pub mod Digits
 pub mod Feeding
 pub mod Gathering
-pub mod Steps
 pub mod Writes
 pub mod RoundTrip
 pub mod Splitting

@@ -1,5 +1,5 @@
 -- Laws of what is written.
-use Prim.Native.Nat.{ℕ, ◌+◌, ◌*◌, ◌-◌, ◌/◌, ◌%◌, ◌≤◌, ◌<◌}
+use Prim.Native.Nat.{ℕ, ◌+◌, ◌*◌, ◌/◌, ◌%◌, ◌≤◌, ◌<◌}
 use native.Mathlib.Omega.{arith}
 use native.Mathlib.Numerals.{add-one}
 use mathlib.Core.Path.{◌≡◌, refl}
@@ -7,7 +7,7 @@ use mathlib.Core.List.{List, [], ◌∷◌, ◌++◌}
 use borrow.Author.Tests.{lt-ltb, le-ltb}
 use lib.Dec.{ltb}
 use lib.ListN.{length, get_or, take, length-append}
-use lib.Seq.{slice, length-slice, slice_empty, take-suc, drop-append-le, length-take-le}
+use lib.Seq.{take_all, take-suc, length-take-le}
 use Rattle.lists.specs.Writes.{Wrote}
 use Rattle.lists.proofs.Choices.{by-choice}
 use Rattle.lists.proofs.Writes.{◌⨾◌, as_long, wrote_none}
@@ -25,54 +25,37 @@ unfolding hex_of
 length-hex_of [] = refl
 length-hex_of (b ∷ bs) = omega (arith, length-hex_of bs)
 
--- A part with one more element.
-slice-more : (f i : ℕ) (l : List ℕ) → f ≤ i → i < length l → slice f (i + 1) l ≡ slice f i l ++ (get_or l i 0 ∷ [])
-slice-more f i l h k =
-    let e : f ≤ length (take i l) = omega (arith, length-take-le i l (omega arith)) in
-    rw (add-one i, take-suc l i 0 k, drop-append-le f (take i l) (get_or l i 0 ∷ []) e)
-
 -- ---- a line of digits
 
--- The digits of bytes f to i are written from place at on.
-pub record Part (l bytes : List ℕ) (at f i : ℕ) (m : List ℕ) (p : ℕ) : Type 0 where
-  pub low : f ≤ i
-  pub wrote : Wrote l at (hex_of (slice f i bytes)) m p
+-- The digits of the first i bytes are written: how far that comes, no digits yet, one byte more, and what stands behind them.
+pub digits-place :
+    {l m : List ℕ} {at p : ℕ} (bytes : List ℕ) (i : ℕ)
+    → Wrote l at (hex_of (take i bytes)) m p
+    → i ≤ length bytes
+    → (p ≡ at + 2 * i) × (length m ≡ length l)
+digits-place bytes i w h = (omega (arith, w.next, length-hex_of (take i bytes), length-take-le i bytes h), as_long w)
 
--- The place behind them, and the length.
-pub part-place : {l bytes m : List ℕ} {at f i p : ℕ} → Part l bytes at f i m p → i ≤ length bytes → p ≡ at + 2 * (i - f)
-part-place {l} {bytes} {m} {at} {f} {i} {p} d h =
-    omega (arith, d.wrote.next, length-hex_of (slice f i bytes), length-slice f i bytes h)
-
-pub part_length : {l bytes m : List ℕ} {at f i p : ℕ} → Part l bytes at f i m p → length m ≡ length l
-part_length d = as_long d.wrote
-
--- No digits yet, one byte more, and the line end.
-pub part_none : (l bytes : List ℕ) (at f : ℕ) → Part l bytes at f f l at
+pub no-digits : (l bytes : List ℕ) (at : ℕ) → Wrote l at (hex_of (take 0 bytes)) l at
 unfolding hex_of
-part_none l bytes at f =
-    record { low = omega arith; wrote = rw (slice_empty f bytes) (wrote_none l at) }
+no-digits l bytes at = wrote_none l at
 
-pub part-more :
-    {l bytes m k : List ℕ} {at f i p q : ℕ}
-    → Part l bytes at f i m p
+pub two-more :
+    {l m k : List ℕ} {at p q : ℕ} (bytes : List ℕ) (i : ℕ)
+    → Wrote l at (hex_of (take i bytes)) m p
     → i < length bytes
     → Wrote m p (hex_of (get_or bytes i 0 ∷ [])) k q
-    → Part l bytes at f (i + 1) k q
-part-more {l} {bytes} {m} {k} {at} {f} {i} {p} {q} d h w =
-    record {
-      low = omega (arith, d.low);
-      wrote =
-          rw (slice-more f i bytes d.low h, hex_of-append (slice f i bytes) (get_or bytes i 0 ∷ []))
-          (d.wrote ⨾ w);
-    }
+    → Wrote l at (hex_of (take (i + 1) bytes)) k q
+two-more bytes i d h w =
+    rw (add-one i, take-suc bytes i 0 h, hex_of-append (take i bytes) (get_or bytes i 0 ∷ [])) (d ⨾ w)
 
-pub part-ended :
-    (t : ℕ) {l bytes m k vs : List ℕ} {at f i p q : ℕ}
-    → Part l bytes at f i m p
-    → i ≡ t
+pub behind-all :
+    {l m k vs : List ℕ} {at p q : ℕ} (bytes : List ℕ) (i : ℕ)
+    → Wrote l at (hex_of (take i bytes)) m p
+    → length bytes ≤ i
     → Wrote m p vs k q
-    → Wrote l at (hex_of (slice f t bytes) ++ vs) k q
-part-ended t d e w = rw (← e) (d.wrote ⨾ w)
+    → Wrote l at (hex_of bytes ++ vs) k q
+behind-all bytes i d h w =
+    let whole : take i bytes ≡ bytes = take_all i bytes h in rw (← whole) (d ⨾ w)
 
 -- ---- a number
 
@@ -88,15 +71,15 @@ pub three-digits : (n : ℕ) → 10 ≤ n → 100 ≤ n → decimal_of n ≡ (48
 unfolding decimal_of
 three-digits n l h = rw (le-ltb n 10 l, le-ltb n 100 h)
 
+-- The same write, of what is the same list and comes to the same place.
+pub placed : {l vs m k : List ℕ} {i p q : ℕ} → m ≡ k → p ≡ q → Wrote l i vs k q → Wrote l i vs m p
+placed e f w = rw (e, f) w
+
 -- ---- for callers
 
 -- How long a line of digits is, and at most a number's line.
-pub line-length :
-    (bytes : List ℕ) (f t : ℕ)
-    → t ≤ length bytes
-    → length (hex_of (slice f t bytes) ++ (line_end ∷ [])) ≡ 2 * (t - f) + 1
-line-length bytes f t h =
-    omega (arith, length-append (hex_of (slice f t bytes)) (line_end ∷ []), length-hex_of (slice f t bytes), length-slice f t bytes h)
+pub line-length : (bytes : List ℕ) → length (hex_of bytes ++ (line_end ∷ [])) ≡ 2 * length bytes + 1
+line-length bytes = omega (arith, length-append (hex_of bytes) (line_end ∷ []), length-hex_of bytes)
 
 pub number-length : (n : ℕ) → length (decimal_of n ++ (line_end ∷ [])) ≤ 4
 unfolding decimal_of

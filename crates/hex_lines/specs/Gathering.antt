@@ -1,10 +1,9 @@
 -- What each function on a line does: the line's state and the bytes after one more character, and what is said at its end.
-use Rattle.std.specs.Prelude.{ℕ, ◌+◌, ◌*◌, ◌/◌, ◌%◌, Bool, true, false, cond, ◌||◌, List, [], ◌∷◌, ltb, eqb, length, get_or, set, take}
+use Rattle.std.specs.Prelude.{ℕ, ◌+◌, ◌*◌, ◌/◌, ◌%◌, Bool, true, false, cond, ◌||◌, List, [], ◌∷◌, ltb, eqb, length, get_or, set, take, Result, Ok, Err}
+use Rattle.questions.specs.declared.Refusal.{Refusal}
 use Rattle.std.proofs.Math.Option.{Option, none, some}
 use Rattle.hex_lines.specs.Lines.{most, line_end, digit}
 use Rattle.hex_lines.specs.declared.Line.{Line}
-use Rattle.hex_lines.specs.declared.Finished.{Finished}
-use Rattle.hex_lines.specs.declared.Finished.TheVariants.{Call, Bad}
 
 -- A line under way and the bytes gathered.
 pub record Gathered : Type 0 where
@@ -50,18 +49,18 @@ abbrev pub odd : ℕ → Bool
 odd n = eqb (n % 2) 1
 
 -- At a line's end: how many bytes its call has, or that it is none.
-unfoldable pub finished_of : Line → Finished
-finished_of l = cond (l.bad || ltb most l.digits || odd l.digits) Bad (Call (l.digits / 2))
+unfoldable pub finished_of : Line → Result ℕ Refusal
+finished_of l = cond (l.bad || ltb most l.digits || odd l.digits) (Err Refusal.Unfilled) (Ok (l.digits / 2))
 
 -- The call that an answer says, of the bytes gathered.
-abbrev pub said : Finished → List ℕ → Option (List ℕ)
-said (Call n) bs = some (take n bs)
-said Bad bs = none
+abbrev pub said : Result ℕ Refusal → List ℕ → Option (List ℕ)
+said (Ok n) bs = some (take n bs)
+said (Err r) bs = none
 
 -- The number of bytes that it is said to have.
-abbrev pub call_length : Finished → ℕ
-call_length (Call n) = n
-call_length Bad = 0
+abbrev pub call_length : Result ℕ Refusal → ℕ
+call_length (Ok n) = n
+call_length (Err r) = 0
 
 -- The characters of an input one by one, from a line under way on: the calls of the lines, each said at its end;
 -- a last line without a line end counts if it has begun.

@@ -21,22 +21,19 @@ pub fn gather(line: Line, bytes: &mut [u8], chunk: &[u8], from: usize) -> Gather
     ensures { Gathers chunk.now from line bytes.old result bytes.new }
 {
     let mut line = line;
-    let mut i = from;
-    while i < chunk.len() {
-        let c = chunk[i];
-        i += 1;
-        if c == LINE_END {
+    for i in from..chunk.len() {
+        if chunk[i] == LINE_END {
             return Gathered {
                 line,
-                next: i,
+                next: i + 1,
                 ended: true,
             };
         }
-        line = line.feed(bytes, c);
+        line = line.feed(bytes, chunk[i]);
     }
     Gathered {
         line,
-        next: i,
+        next: chunk.len(),
         ended: false,
     }
 }

@@ -16,12 +16,3 @@ pub struct Line {
     /// It spells no call, whatever follows.
     pub bad: bool,
 }
-
-/// What a line says at its end.
-#[derive(Clone, Copy)]
-pub enum Finished {
-    /// A call of so many bytes, the first ones of those gathered.
-    Call(usize),
-    /// No call (the number 2).
-    Bad,
-}

@@ -1,10 +1,11 @@
 // A line read character by character: its bytes gather in a lent buffer.
-ghost use Rattle.std.specs.Prelude.{◌≡◌};
-ghost use Rattle.std.proofs.Math.Option.{get_or};
+ghost use Rattle.std.specs.Prelude.{◌<◌, ◌≡◌, IfSome, MatchOption};
+ghost use Rattle.std.proofs.Math.Option.{none, some};
 ghost use Rattle.hex_lines.specs.Lines.{digit as digit_of};
 ghost use Rattle.hex_lines.specs.Gathering.{gathered, fresh, feed_of, begun_of, finished_of};
 
-use crate::{Finished, Line};
+use crate::Line;
+use questions::Refusal;
 
 // The most digits of a call.
 const MOST: usize = 4096;
@@ -21,67 +22,53 @@ impl Line {
     }
 
     /// One more character, which is no line end. The bytes gather in buf, of at least 2,048 bytes.
+    #[tactic(auto, unfolding(crate::specs::Gathering::feed_value))]
     pub fn feed(self, buf: &mut [u8], c: u8) -> Line
         ensures { gathered result buf.new ≡ feed_of self buf.old c }
     {
-        let v = value(c);
-        let n = self.digits;
-        let k = n / 2;
-        if 16 <= v {
-            return Line {
-                digits: n,
-                bad: true,
-            };
-        }
-        if MOST <= n {
-            return Line {
-                digits: n,
-                bad: true,
-            };
-        }
-        if buf.len() <= k {
-            return Line {
-                digits: n,
-                bad: true,
-            };
-        }
-        buf[k] = buf[k] % 16 * 16 + v;
-        Line {
-            digits: n + 1,
-            bad: self.bad,
+        let k = self.digits / 2;
+        match value(c) {
+            Some(v) if self.digits < MOST && k < buf.len() => {
+                buf[k] = buf[k] % 16 * 16 + v;
+                Line {
+                    digits: self.digits + 1,
+                    ..self
+                }
+            }
+            _ => Line { bad: true, ..self },
         }
     }
 
     /// Has a character come? A last line that has begun counts.
+    #[tactic(auto, unfolding(crate::specs::Gathering::begun_of))]
     pub fn begun(self) -> bool
         ensures { result ≡ begun_of self }
     {
-        (0 < self.digits) | self.bad
+        0 < self.digits || self.bad
     }
 
     /// The line is at its end: how many bytes are its call, or that it spells none.
-    pub fn finished(self) -> Finished
+    #[tactic(auto, unfolding(crate::specs::Gathering::finished_of))]
+    pub fn finished(self) -> Result<usize, Refusal>
         ensures { result ≡ finished_of self }
     {
-        if self.bad | (MOST < self.digits) | (self.digits % 2 == 1) {
-            return Finished::Bad;
+        if self.bad || MOST < self.digits || self.digits % 2 == 1 {
+            return Err(Refusal::Unfilled);
         }
-        Finished::Call(self.digits / 2)
+        Ok(self.digits / 2)
     }
 }
 
-// The value of a digit; 16 for another character.
-fn value(c: u8) -> u8
-    ensures { result ≡ get_or (digit_of c) 16 }
+// The value of a digit.
+#[tactic(auto, unfolding(crate::specs::Lines::digit))]
+fn value(c: u8) -> Option<u8>
+    ensures value { MatchOption result (digit_of c ≡ none) (λ v. digit_of c ≡ some v) }
+    ensures upper_bound { IfSome result (λ v. v < 16) }
 {
-    if (48 <= c) & (c <= 57) {
-        return c - 48;
+    match c {
+        b'0'..=b'9' => Some(c - b'0'),
+        b'a'..=b'f' => Some(c - b'a' + 10),
+        b'A'..=b'F' => Some(c - b'A' + 10),
+        _ => None,
     }
-    if (97 <= c) & (c <= 102) {
-        return c - 87;
-    }
-    if (65 <= c) & (c <= 70) {
-        return c - 55;
-    }
-    16
 }

@@ -1,12 +1,12 @@
 // Bytes and numbers written as text into a lent buffer.
-ghost use Rattle.std.specs.Prelude.{◌+◌, ◌-◌, ◌*◌, ◌≤◌, ◌<◌, ◌≡◌, [], ◌∷◌, ◌++◌, length};
-ghost use Rattle.std.proofs.Math.Seq.{slice};
+ghost use Rattle.std.specs.Prelude.{◌+◌, ◌*◌, ◌≤◌, ◌<◌, ◌≡◌, [], ◌∷◌, ◌++◌, length};
 ghost use Rattle.lists.specs.Writes.{Wrote};
 ghost use Rattle.hex_lines.specs.Lines.{line_end, hex_digit, hex_of, decimal_of};
 
-pub(crate) const LINE_END: u8 = 10;
+pub(crate) const LINE_END: u8 = b'\n';
 
 // Writes one character.
+#[tactic(auto, using(lists::proofs::Writes::wrote_one))]
 fn put(out: &mut [u8], at: usize, c: u8) -> usize
     requires { at + 1 ≤ length out.old }
     ensures { Wrote out.old at (c ∷ []) out.new result }
@@ -16,14 +16,12 @@ fn put(out: &mut [u8], at: usize, c: u8) -> usize
 }
 
 // The lower-case digit of a value.
+#[tactic(auto, unfolding(crate::specs::Lines::hex_digit))]
 fn hex_digit(v: u8) -> u8
     requires { v < 16 }
     ensures { result ≡ hex_digit v }
 {
-    if v < 10 {
-        return 48 + v;
-    }
-    87 + v
+    if v < 10 { b'0' + v } else { b'a' - 10 + v }
 }
 
 /// Writes a byte as two lower-case digits, and gives the place behind them.
@@ -31,24 +29,18 @@ pub fn put_hex(out: &mut [u8], at: usize, b: u8) -> usize
     requires { at + 2 ≤ length out.old }
     ensures { Wrote out.old at (hex_of (b ∷ [])) out.new result }
 {
-    let high = hex_digit(b / 16);
-    let low = hex_digit(b % 16);
-    let p = put(out, at, high);
-    put(out, p, low)
+    let p = put(out, at, hex_digit(b / 16));
+    put(out, p, hex_digit(b % 16))
 }
 
-/// Writes bytes[from..to] as a line of digits, and gives the place behind its line end.
-pub fn put_line(out: &mut [u8], at: usize, bytes: &[u8], from: usize, to: usize) -> usize
-    requires from_le_to { from ≤ to }
-    requires to_in_bounds { to ≤ length bytes.now }
-    requires from_in_bounds { at + 2 * (to - from) + 1 ≤ length out.old }
-    ensures { Wrote out.old at (hex_of (slice from to bytes.now) ++ (line_end ∷ [])) out.new result }
+/// Writes bytes as a line of digits, and gives the place behind its line end.
+pub fn put_line(out: &mut [u8], at: usize, bytes: &[u8]) -> usize
+    requires { at + 2 * length bytes.now + 1 ≤ length out.old }
+    ensures { Wrote out.old at (hex_of bytes.now ++ (line_end ∷ [])) out.new result }
 {
-    let mut i = from;
     let mut p = at;
-    while i < to {
-        p = put_hex(out, p, bytes[i]);
-        i += 1;
+    for b in bytes {
+        p = put_hex(out, p, *b);
     }
     put(out, p, LINE_END)
 }
@@ -58,17 +50,13 @@ pub fn put_number(out: &mut [u8], at: usize, n: u8) -> usize
     requires { at + 4 ≤ length out.old }
     ensures { Wrote out.old at (decimal_of n ++ (line_end ∷ [])) out.new result }
 {
-    if n < 10 {
-        let p = put(out, at, 48 + n);
-        return put(out, p, LINE_END);
+    let mut p = at;
+    if 100 <= n {
+        p = put(out, p, b'0' + n / 100);
     }
-    if n < 100 {
-        let p = put(out, at, 48 + n / 10);
-        let p = put(out, p, 48 + n % 10);
-        return put(out, p, LINE_END);
+    if 10 <= n {
+        p = put(out, p, b'0' + n / 10 % 10);
     }
-    let p = put(out, at, 48 + n / 100);
-    let p = put(out, p, 48 + n / 10 % 10);
-    let p = put(out, p, 48 + n % 10);
+    p = put(out, p, b'0' + n % 10);
     put(out, p, LINE_END)
 }

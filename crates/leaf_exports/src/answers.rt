@@ -1,9 +1,11 @@
 // The answers of the functions on windows as structs of numbers.
 ghost use Rattle.std.specs.Prelude.{◌≡◌};
-ghost use Rattle.bitbuffer.specs.Answers.{windowed, counted, peeked, read, written, copied};
+ghost use Rattle.questions.specs.Refusals.{outcome};
+ghost use Rattle.bitbuffer.specs.Answers.{peeked, read};
 ghost use Rattle.leaf_exports.specs.Windows.{window_of, count_of, found_of, got_of, copy_of, to_copy, to_value, to_none};
 
-use bitbuffer::{BitBuffer, Copied, Counted, Peeked, Read, Windowed, Windows, Written};
+use bitbuffer::{BitBuffer, Windows};
+use questions::Refusal;
 
 /// What a function on a window answers.
 #[repr(C)]
@@ -53,67 +55,55 @@ pub fn to_none(number: u8, w: BitBuffer) -> WindowAnswer
     }
 }
 
-/// Where the window was w: a new one.
-pub fn of_window(w: BitBuffer, r: Windowed) -> WindowAnswer
-    ensures { result ≡ window_of w (windowed r) }
+/// Where the window was w: the window after a step or a write.
+pub fn of_window(w: BitBuffer, r: Result<BitBuffer, Refusal>) -> WindowAnswer
+    ensures { result ≡ window_of w (outcome r) }
 {
     match r {
-        Windowed::To(v) => to_none(0, v),
-        Windowed::OutOfRange => to_none(5, w),
+        Ok(v) => to_none(0, v),
+        Err(refusal) => to_none(u8::from(refusal), w),
     }
 }
 
 /// Where the window was w: a number of bits.
-pub fn of_count(w: BitBuffer, r: Counted) -> WindowAnswer
-    ensures { result ≡ count_of w (counted r) }
+pub fn of_count(w: BitBuffer, r: Result<usize, Refusal>) -> WindowAnswer
+    ensures { result ≡ count_of w (outcome r) }
 {
     match r {
-        Counted::Bits(n) => to_value(n as u64, w),
-        Counted::OutOfRange => to_none(5, w),
+        Ok(n) => to_value(n as u64, w),
+        Err(refusal) => to_none(u8::from(refusal), w),
     }
 }
 
 /// Where the window was w: what a peek finds.
-pub fn of_peeked(w: BitBuffer, r: Peeked) -> WindowAnswer
+pub fn of_peeked(w: BitBuffer, r: Result<Option<u64>, Refusal>) -> WindowAnswer
     ensures { result ≡ found_of w (peeked r) }
 {
     match r {
-        Peeked::Bits(n) => to_value(n, w),
-        Peeked::Nothing => to_none(0, w),
-        Peeked::OutOfRange => to_none(5, w),
+        Ok(Some(value)) => to_value(value, w),
+        Ok(None) => to_none(0, w),
+        Err(refusal) => to_none(u8::from(refusal), w),
     }
 }
 
 /// Where the window was w: what a read gives.
-pub fn of_read(w: BitBuffer, r: Read) -> WindowAnswer
+pub fn of_read(w: BitBuffer, r: Result<Option<(u64, BitBuffer)>, Refusal>) -> WindowAnswer
     ensures { result ≡ got_of w (read r) }
 {
     match r {
-        Read::Bits(n, v) => to_value(n, v),
-        Read::Nothing => to_none(0, w),
-        Read::OutOfRange => to_none(5, w),
-    }
-}
-
-/// Where the window was w: what a write gives.
-pub fn of_written(w: BitBuffer, r: Written) -> WindowAnswer
-    ensures { result ≡ window_of w (written r) }
-{
-    match r {
-        Written::To(v) => to_none(0, v),
-        Written::OutOfRange => to_none(5, w),
-        Written::NoRoom => to_none(8, w),
+        Ok(Some((value, v))) => to_value(value, v),
+        Ok(None) => to_none(0, w),
+        Err(refusal) => to_none(u8::from(refusal), w),
     }
 }
 
 /// Where the windows were w and v: what a copy from v to w gives.
-pub fn of_copied(w: BitBuffer, v: BitBuffer, r: Copied) -> CopyAnswer
-    ensures { result ≡ copy_of w v (copied r) }
+pub fn of_copied(w: BitBuffer, v: BitBuffer, r: Result<Windows, Refusal>) -> CopyAnswer
+    ensures { result ≡ copy_of w v (outcome r) }
 {
     match r {
-        Copied::To(ws) => to_copy(0, ws),
-        Copied::OutOfRange => to_copy(5, Windows { to: w, from: v }),
-        Copied::NoRoom => to_copy(8, Windows { to: w, from: v }),
+        Ok(windows) => to_copy(0, windows),
+        Err(refusal) => to_copy(u8::from(refusal), Windows { to: w, from: v }),
     }
 }
 

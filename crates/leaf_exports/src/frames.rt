@@ -9,8 +9,8 @@ ghost use Rattle.llc_pdus.specs.Writes.{written};
 ghost use Rattle.leaf_exports.specs.Frames.{pdu_numbered, to_frame, to_refusal, frame_answer};
 ghost use Rattle.leaf_exports.specs.Numbers.{sum_or, raw_or};
 
-use fcs::Checked;
-use llc_pdus::{LlcPduType, Pdu, Read, Sdu, TypeOf, Written};
+use crate::{above_u32, length_or};
+use llc_pdus::{LlcPduType, Pdu, Sdu};
 
 /// What reading a frame answers; past a refusal all is 0.
 #[repr(C)]
@@ -40,8 +40,8 @@ pub extern "C" fn leaf_from_bitbuf(frame: &[u8], len: usize) -> FrameAnswer
     ensures { result ≡ frame_answer (read_from (bits frame.now) len) }
 {
     match llc_pdus::from_bitbuf(frame, len) {
-        Read::Frame(p, s) => to_frame(p, s),
-        Read::Refused(number) => to_refusal(number),
+        Ok((p, s)) => to_frame(p, s),
+        Err(r) => to_refusal(u8::from(r)),
     }
 }
 
@@ -60,11 +60,8 @@ pub extern "C" fn leaf_to_bitbuf(
     ensures value { result ≡ sum_or (written (pdu_numbered kind has_fcs nr ns) (bits out.old) (bits sdu.now) from len).answer }
     ensures out_after { bits out.new ≡ (written (pdu_numbered kind has_fcs nr ns) (bits out.old) (bits sdu.now) from len).bits }
 {
-    match llc_pdus::to_bitbuf(pdu_numbered(kind, has_fcs, nr, ns), sdu, from, len, out) {
-        Written::Bits(n) => n as u64,
-        Written::OutOfRange => 4_294_967_301,
-        Written::NoRoom => 4_294_967_304,
-    }
+    let pdu = pdu_numbered(kind, has_fcs, nr, ns);
+    length_or(llc_pdus::to_bitbuf(pdu, sdu, from, len, out))
 }
 
 /// check_fcs of so many bits of a part from a place on: the number, 0 where the check is right.
@@ -73,9 +70,8 @@ pub extern "C" fn leaf_check_fcs(part: &[u8], at: usize, len: usize) -> u64
     ensures { result ≡ number_of (check (bits part.now) at len) }
 {
     match fcs::check_fcs(part, at, len) {
-        Checked::Right => 0,
-        Checked::Wrong => 12,
-        Checked::OutOfRange => 5,
+        Ok(()) => 0,
+        Err(r) => u8::from(r) as u64,
     }
 }
 
@@ -85,8 +81,8 @@ pub extern "C" fn leaf_type(x: u64) -> u64
     ensures { result ≡ raw_or (from_raw x) }
 {
     match LlcPduType::try_from(x) {
-        TypeOf::Type(t) => t.into_raw(),
-        TypeOf::Unknown => 4_294_967_301,
+        Ok(t) => u64::from(t),
+        Err(r) => above_u32(r),
     }
 }
 
@@ -106,47 +102,21 @@ fn pdu_numbered(kind: u8, has_fcs: bool, nr: bool, ns: bool) -> Pdu
 fn to_frame(p: Pdu, s: Sdu) -> FrameAnswer
     ensures { result ≡ to_frame p s }
 {
-    match p {
-        Pdu::BlAdata { has_fcs, nr, ns } => FrameAnswer {
-            number: 0,
-            kind: 0,
-            has_fcs,
-            nr,
-            ns,
-            first: s.first,
-            len: s.len,
-            place: s.place,
-        },
-        Pdu::BlData { has_fcs, ns } => FrameAnswer {
-            number: 0,
-            kind: 1,
-            has_fcs,
-            nr: false,
-            ns,
-            first: s.first,
-            len: s.len,
-            place: s.place,
-        },
-        Pdu::BlUdata { has_fcs } => FrameAnswer {
-            number: 0,
-            kind: 2,
-            has_fcs,
-            nr: false,
-            ns: false,
-            first: s.first,
-            len: s.len,
-            place: s.place,
-        },
-        Pdu::BlAck { has_fcs, nr } => FrameAnswer {
-            number: 0,
-            kind: 3,
-            has_fcs,
-            nr,
-            ns: false,
-            first: s.first,
-            len: s.len,
-            place: s.place,
-        },
+    let (kind, has_fcs, nr, ns) = match p {
+        Pdu::BlAdata { has_fcs, nr, ns } => (0, has_fcs, nr, ns),
+        Pdu::BlData { has_fcs, ns } => (1, has_fcs, false, ns),
+        Pdu::BlUdata { has_fcs } => (2, has_fcs, false, false),
+        Pdu::BlAck { has_fcs, nr } => (3, has_fcs, nr, false),
+    };
+    FrameAnswer {
+        number: 0,
+        kind,
+        has_fcs,
+        nr,
+        ns,
+        first: s.first,
+        len: s.len,
+        place: s.place,
     }
 }
 

@@ -9,15 +9,23 @@ mod times;
 mod windows;
 mod writes;
 
-ghost use Rattle.std.specs.Prelude.{false, ◌≡◌};
+ghost use Rattle.std.specs.Prelude.{false, ◌≡◌, ◌+◌, ◌^◌};
 ghost use Rattle.bits.specs.Bits.{bits};
 ghost use Rattle.fcs.specs.Answers.{computed};
+ghost use Rattle.questions.specs.Refusals.{number_of, outcome};
 ghost use Rattle.llc_pdus.specs.Answers.{read_from};
 ghost use Rattle.llc_pdus.specs.Writes.{written};
 ghost use Rattle.leaf_exports.specs.Numbers.{sum_or, first_or};
 
-use fcs::Fcs;
-use llc_pdus::{Pdu, Read, Written};
+use llc_pdus::Pdu;
+use questions::Refusal;
+
+// A refusal as a number: 2 ^ 32 and document 01's.
+fn above_u32(r: Refusal) -> u64
+    ensures { result ≡ 2 ^ 32 + number_of r }
+{
+    4_294_967_296 + u8::from(r) as u64
+}
 
 /// The check bits of so many bits of a part from a place on.
 #[unsafe(no_mangle)]
@@ -25,8 +33,8 @@ pub extern "C" fn leaf_fcs(part: &[u8], at: usize, len: usize) -> u64
     ensures { result ≡ sum_or (computed (bits part.now) at len) }
 {
     match fcs::compute_fcs(part, at, len) {
-        Fcs::Sum(n) => n as u64,
-        Fcs::OutOfRange => 4_294_967_301,
+        Ok(n) => n as u64,
+        Err(r) => above_u32(r),
     }
 }
 
@@ -36,8 +44,8 @@ pub extern "C" fn leaf_read(frame: &[u8], len: usize) -> u64
     ensures { result ≡ first_or (read_from (bits frame.now) len) }
 {
     match llc_pdus::from_bitbuf(frame, len) {
-        Read::Frame(_, s) => s.first as u64,
-        Read::Refused(number) => 4_294_967_296 + number as u64,
+        Ok((_, sdu)) => sdu.first as u64,
+        Err(r) => above_u32(r),
     }
 }
 
@@ -51,9 +59,15 @@ pub extern "C" fn leaf_write(out: &mut [u8], sdu: &[u8], from: usize, len: usize
         has_fcs: false,
         ns: false,
     };
-    match llc_pdus::to_bitbuf(pdu, sdu, from, len, out) {
-        Written::Bits(n) => n as u64,
-        Written::OutOfRange => 4_294_967_301,
-        Written::NoRoom => 4_294_967_304,
+    length_or(llc_pdus::to_bitbuf(pdu, sdu, from, len, out))
+}
+
+// What writing a frame answers, as one number.
+fn length_or(answered: Result<usize, Refusal>) -> u64
+    ensures { result ≡ sum_or (outcome answered) }
+{
+    match answered {
+        Ok(n) => n as u64,
+        Err(r) => above_u32(r),
     }
 }

@@ -4,7 +4,8 @@ ghost use Rattle.tx_receipt.specs.States.{is, at_least, final};
 ghost use Rattle.tx_receipt.specs.Marks.{transmitted, discarded, acknowledged, lost, reset, marked, answer};
 ghost use Rattle.leaf_exports.specs.Receipts.{receipt_of, to_receipt, answer_of};
 
-use tx_receipt::{Marked, TxReceipt, TxState};
+use questions::Refusal;
+use tx_receipt::{TxReceipt, TxState};
 
 /// A number, and a receipt.
 #[repr(C)]
@@ -23,7 +24,8 @@ pub struct ReceiptAnswer {
 pub extern "C" fn leaf_mark_transmitted(expects_ack: bool, state: u8) -> ReceiptAnswer
     ensures { result ≡ answer_of (marked transmitted (receipt_of expects_ack state)) }
 {
-    of_marked(receipt_of(expects_ack, state).mark_transmitted())
+    let receipt = receipt_of(expects_ack, state);
+    ReceiptAnswer::of(receipt, receipt.mark_transmitted())
 }
 
 /// mark_discarded.
@@ -31,7 +33,8 @@ pub extern "C" fn leaf_mark_transmitted(expects_ack: bool, state: u8) -> Receipt
 pub extern "C" fn leaf_mark_discarded(expects_ack: bool, state: u8) -> ReceiptAnswer
     ensures { result ≡ answer_of (marked discarded (receipt_of expects_ack state)) }
 {
-    of_marked(receipt_of(expects_ack, state).mark_discarded())
+    let receipt = receipt_of(expects_ack, state);
+    ReceiptAnswer::of(receipt, receipt.mark_discarded())
 }
 
 /// mark_acknowledged.
@@ -39,7 +42,8 @@ pub extern "C" fn leaf_mark_discarded(expects_ack: bool, state: u8) -> ReceiptAn
 pub extern "C" fn leaf_mark_acknowledged(expects_ack: bool, state: u8) -> ReceiptAnswer
     ensures { result ≡ answer_of (marked acknowledged (receipt_of expects_ack state)) }
 {
-    of_marked(receipt_of(expects_ack, state).mark_acknowledged())
+    let receipt = receipt_of(expects_ack, state);
+    ReceiptAnswer::of(receipt, receipt.mark_acknowledged())
 }
 
 /// mark_lost.
@@ -47,7 +51,8 @@ pub extern "C" fn leaf_mark_acknowledged(expects_ack: bool, state: u8) -> Receip
 pub extern "C" fn leaf_mark_lost(expects_ack: bool, state: u8) -> ReceiptAnswer
     ensures { result ≡ answer_of (marked lost (receipt_of expects_ack state)) }
 {
-    of_marked(receipt_of(expects_ack, state).mark_lost())
+    let receipt = receipt_of(expects_ack, state);
+    ReceiptAnswer::of(receipt, receipt.mark_lost())
 }
 
 /// reset.
@@ -55,7 +60,7 @@ pub extern "C" fn leaf_mark_lost(expects_ack: bool, state: u8) -> ReceiptAnswer
 pub extern "C" fn leaf_reset(expects_ack: bool, state: u8) -> ReceiptAnswer
     ensures { result ≡ answer_of (marked reset (receipt_of expects_ack state)) }
 {
-    to_receipt(0, receipt_of(expects_ack, state).reset())
+    ReceiptAnswer::numbered(0, receipt_of(expects_ack, state).reset())
 }
 
 /// is_discarded.
@@ -96,29 +101,29 @@ fn receipt_of(expects_ack: bool, state: u8) -> TxReceipt
 {
     TxReceipt {
         expects_ack,
-        state: TxState::from_raw(state),
+        state: TxState::from(state),
     }
 }
 
-// A number and a receipt.
-fn to_receipt(number: u8, r: TxReceipt) -> ReceiptAnswer
-    ensures { result ≡ to_receipt number r }
-{
-    let state = r.state;
-    ReceiptAnswer {
-        number,
-        expects_ack: r.expects_ack,
-        state: state.raw(),
+impl ReceiptAnswer {
+    // A number and a receipt.
+    fn numbered(number: u8, receipt: TxReceipt) -> ReceiptAnswer
+        ensures { result ≡ to_receipt number receipt }
+    {
+        ReceiptAnswer {
+            number,
+            expects_ack: receipt.expects_ack,
+            state: receipt.state.into(),
+        }
     }
-}
 
-// What a mark answers.
-fn of_marked(r: Marked) -> ReceiptAnswer
-    ensures { result ≡ answer_of (answer r) }
-{
-    match r {
-        Marked::Made(t) => to_receipt(0, t),
-        Marked::NotPending(t) => to_receipt(15, t),
-        Marked::NotAwaiting(t) => to_receipt(14, t),
+    // What a mark on a receipt answers: where it is refused, the receipt as it was.
+    fn of(receipt: TxReceipt, marked: Result<TxReceipt, Refusal>) -> ReceiptAnswer
+        ensures { result ≡ answer_of (answer receipt marked) }
+    {
+        match marked {
+            Ok(after) => ReceiptAnswer::numbered(0, after),
+            Err(r) => ReceiptAnswer::numbered(r.into(), receipt),
+        }
     }
 }

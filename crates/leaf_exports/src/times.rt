@@ -1,11 +1,13 @@
 // Slot times, by the methods of TdmaTime.
 ghost use Rattle.std.specs.Prelude.{◌≡◌};
+ghost use Rattle.questions.specs.Refusals.{outcome};
 ghost use Rattle.tdma_time.specs.Modulo.{modulo};
 ghost use Rattle.tdma_time.specs.Slots.{W, valid, time_at, first};
-ghost use Rattle.tdma_time.specs.Answers.{moved, counted, counted_from, added, difference, forwarded};
-ghost use Rattle.leaf_exports.specs.Times.{time_of, to_time, slots_of};
+ghost use Rattle.tdma_time.specs.Answers.{counted_from, added, difference, forwarded};
+ghost use Rattle.leaf_exports.specs.Times.{time_of, slots_of};
 
-use tdma_time::{Counted, Moved, TdmaTime};
+use questions::Refusal;
+use tdma_time::TdmaTime;
 
 /// A number, and a time.
 #[repr(C)]
@@ -48,7 +50,7 @@ pub extern "C" fn leaf_is_valid(a: TdmaTime) -> bool
 pub extern "C" fn leaf_to_int(a: TdmaTime) -> SlotsAnswer
     ensures { result ≡ slots_of (counted_from a) }
 {
-    of_counted(a.to_int())
+    SlotsAnswer::of(a.to_int())
 }
 
 /// from_int.
@@ -64,7 +66,7 @@ pub extern "C" fn leaf_from_int(time: i32) -> TdmaTime
 pub extern "C" fn leaf_add_timeslots(a: TdmaTime, num_slots: i32) -> TimeAnswer
     ensures { result ≡ time_of a (added a num_slots) }
 {
-    of_moved(a, a.add_timeslots(num_slots))
+    TimeAnswer::of(a, a.add_timeslots(num_slots))
 }
 
 /// diff.
@@ -72,7 +74,7 @@ pub extern "C" fn leaf_add_timeslots(a: TdmaTime, num_slots: i32) -> TimeAnswer
 pub extern "C" fn leaf_diff(a: TdmaTime, b: TdmaTime) -> SlotsAnswer
     ensures { result ≡ slots_of (difference a b) }
 {
-    of_counted(a.diff(b))
+    SlotsAnswer::of(a.diff(b))
 }
 
 /// age.
@@ -80,7 +82,7 @@ pub extern "C" fn leaf_diff(a: TdmaTime, b: TdmaTime) -> SlotsAnswer
 pub extern "C" fn leaf_age(a: TdmaTime, at: TdmaTime) -> SlotsAnswer
     ensures { result ≡ slots_of (difference at a) }
 {
-    of_counted(a.age(at))
+    SlotsAnswer::of(a.age(at))
 }
 
 /// forward_to_timeslot.
@@ -88,38 +90,35 @@ pub extern "C" fn leaf_age(a: TdmaTime, at: TdmaTime) -> SlotsAnswer
 pub extern "C" fn leaf_forward_to_timeslot(a: TdmaTime, ts: u8) -> TimeAnswer
     ensures { result ≡ time_of a (forwarded a ts) }
 {
-    of_moved(a, a.forward_to_timeslot(ts))
+    TimeAnswer::of(a, a.forward_to_timeslot(ts))
 }
 
-// Where the time was a: a new one.
-fn of_moved(a: TdmaTime, r: Moved) -> TimeAnswer
-    ensures { result ≡ time_of a (moved r) }
-{
-    match r {
-        Moved::To(b) => to_time(0, b),
-        Moved::OutOfRange => to_time(5, a),
+impl TimeAnswer {
+    // Where the time was a: a new one, or that it is refused.
+    fn of(a: TdmaTime, moved: Result<TdmaTime, Refusal>) -> TimeAnswer
+        ensures { result ≡ time_of a (outcome moved) }
+    {
+        match moved {
+            Ok(time) => TimeAnswer { number: 0, time },
+            Err(r) => TimeAnswer {
+                number: r.into(),
+                time: a,
+            },
+        }
     }
 }
 
-// A number and a time.
-fn to_time(number: u8, a: TdmaTime) -> TimeAnswer
-    ensures { result ≡ to_time number a }
-{
-    TimeAnswer { number, time: a }
-}
-
-// Slots.
-fn of_counted(r: Counted) -> SlotsAnswer
-    ensures { result ≡ slots_of (counted r) }
-{
-    match r {
-        Counted::Slots(n) => SlotsAnswer {
-            number: 0,
-            slots: n,
-        },
-        Counted::OutOfRange => SlotsAnswer {
-            number: 5,
-            slots: 0,
-        },
+impl SlotsAnswer {
+    // Slots, or that they are refused.
+    fn of(counted: Result<i32, Refusal>) -> SlotsAnswer
+        ensures { result ≡ slots_of (outcome counted) }
+    {
+        match counted {
+            Ok(slots) => SlotsAnswer { number: 0, slots },
+            Err(r) => SlotsAnswer {
+                number: r.into(),
+                slots: 0,
+            },
+        }
     }
 }

@@ -5,15 +5,20 @@
 mod frames;
 mod receipts;
 mod sums;
-mod text;
 mod times;
 mod types;
 
+use std::io::{self, Stdout};
+
 fn main(rt: HostRuntime) {
-    let to = rt.stdout();
-    times::show(to);
-    sums::show(to);
-    types::show(to);
-    frames::show(to);
-    receipts::show(to);
+    // Where a line cannot be written the program ends.
+    let _ = show(rt.stdout());
+}
+
+fn show(to: Stdout) -> io::Result<()> {
+    times::show(to)?;
+    sums::show(to)?;
+    types::show(to)?;
+    frames::show(to)?;
+    receipts::show(to)
 }

@@ -75,48 +75,11 @@ module _ {A : Type 0} where
   length_without zero (x ∷ l) h = refl
   length_without (suc i) (x ∷ l) h = ap suc (length_without i l (omega (arith, h)))
 
-  pub without-none : (i : ℕ) (l : List A) → length l ≤ i → without i l ≡ l
-  without-none zero [] h = refl
-  without-none zero (x ∷ l) h = absurd (omega (arith, h))
-  without-none (suc i) [] h = refl
-  without-none (suc i) (x ∷ l) h = ap (λ (t : List A). x ∷ t) (without-none i l (omega (arith, h)))
-
-  -- The first elements of it, and those behind them.
-  pub take-without :
-      (i m : ℕ) (l : List A)
-      → i ≤ m
-      → m < length l
-      → take m (without i l) ≡ without i (take (suc m) l)
-  take-without i m [] h k = absurd (omega (arith, k))
-  take-without zero m (x ∷ l) h k = refl
-  take-without (suc i) zero (x ∷ l) h k = absurd (omega (arith, h))
-  take-without (suc i) (suc m) (x ∷ l) h k =
-      ap (λ (t : List A). x ∷ t) (take-without i m l (omega (arith, h)) (omega (arith, k)))
-
-  pub drop-without : (i m : ℕ) (l : List A) → i ≤ m → m < length l → drop m (without i l) ≡ drop (suc m) l
-  drop-without i m [] h k = absurd (omega (arith, k))
-  drop-without zero m (x ∷ l) h k = refl
-  drop-without (suc i) zero (x ∷ l) h k = absurd (omega (arith, h))
-  drop-without (suc i) (suc m) (x ∷ l) h k = drop-without i m l (omega (arith, h)) (omega (arith, k))
-
   -- An element that is there, whatever stands for none.
-  pub get_d-there : (i : ℕ) (l : List A) (d e : A) → i < length l → get_or l i d ≡ get_or l i e
-  get_d-there i [] d e h = absurd (omega (arith, h))
-  get_d-there zero (x ∷ l) d e h = refl
-  get_d-there (suc i) (x ∷ l) d e h = get_d-there i l d e (omega (arith, h))
-
-  -- An element of it, before the place and behind.
-  pub get_d-before : (i m : ℕ) (l : List A) (d : A) → m < i → i < length l → get_or (without i l) m d ≡ get_or l m d
-  get_d-before i m [] d h k = absurd (omega (arith, k))
-  get_d-before zero m (x ∷ l) d h k = absurd (omega (arith, h))
-  get_d-before (suc i) zero (x ∷ l) d h k = refl
-  get_d-before (suc i) (suc m) (x ∷ l) d h k = get_d-before i m l d (omega (arith, h)) (omega (arith, k))
-
-  pub get_d-behind : (i m : ℕ) (l : List A) (d : A) → i ≤ m → m < length l → get_or (without i l) m d ≡ get_or l (suc m) d
-  get_d-behind i m [] d h k = absurd (omega (arith, k))
-  get_d-behind zero m (x ∷ l) d h k = refl
-  get_d-behind (suc i) zero (x ∷ l) d h k = absurd (omega (arith, h))
-  get_d-behind (suc i) (suc m) (x ∷ l) d h k = get_d-behind i m l d (omega (arith, h)) (omega (arith, k))
+  pub get_or-there : (i : ℕ) (l : List A) (d e : A) → i < length l → get_or l i d ≡ get_or l i e
+  get_or-there i [] d e h = absurd (omega (arith, h))
+  get_or-there zero (x ∷ l) d e h = refl
+  get_or-there (suc i) (x ∷ l) d e h = get_or-there i l d e (omega (arith, h))
 
   -- Other elements in use ---------------------------------------------------------------------------------------------------
 

@@ -3,6 +3,5 @@ pub mod Lists
 pub mod Tests
 pub mod Arrays
 pub mod Tables
-pub mod Searching
-pub mod Asking
 pub mod Writes
+pub mod Std

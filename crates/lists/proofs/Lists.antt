@@ -157,8 +157,8 @@ module _ {A : Type 0} where
   all_middle P (y ∷ f) x b a = let r = all_middle P f x b a.1 in (r.0, (a.0, r.1))
 
 -- Any element read in a list that was written.
-pub get_d_set : {A : Type 0} (l : List A) (i j : ℕ) (v d : A) → i < length l → get_or (set l i v) j d ≡ cond (eqb j i) v (get_or l j d)
-get_d_set l i j v d h =
+pub get_or_set : {A : Type 0} (l : List A) (i j : ℕ) (v d : A) → i < length l → get_or (set l i v) j d ≡ cond (eqb j i) v (get_or l j d)
+get_or_set l i j v d h =
     by-test (eqb j i)
     (λ e. rw (e, eqb-true j i e) (get_or-set_same l i v d h))
     (λ e. rw e (get_or-set_other l i j v d (eqb-false j i e)))

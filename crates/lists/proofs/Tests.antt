@@ -21,15 +21,7 @@ module _ {A : Type 0} (p : A → Bool) where
   each_all [] a = refl
   each_all (x ∷ l) a = and-true a.0 (each_all l a.1)
 
-  -- None, one, and two lists put together.
-  pub none_passes : all p [] ≡ true
-  unfolding all
-  none_passes = refl
-
-  pub one_passes : (x : A) → p x ≡ true → all p (x ∷ []) ≡ true
-  unfolding all
-  one_passes x h = and-true h refl
-
+  -- Two lists put together.
   pub pass-append : (l m : List A) → all p l ≡ true → all p m ≡ true → all p (l ++ m) ≡ true
   unfolding all
   pass-append [] m h k = k

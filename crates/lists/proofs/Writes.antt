@@ -75,38 +75,3 @@ wrote_none l i = record { next = sym (add-zero i); holds = refl }
 pub wrote_one : (l : List ℕ) (i v : ℕ) → Wrote l i (v ∷ []) (set l i v) (i + 1)
 unfolding write
 wrote_one l i v = record { next = refl; holds = refl }
-
--- On the way of writing vs to l₀ from i on: rest, written to l from p on, is what is left.
-pub record Left (l₀ : List ℕ) (i : ℕ) (vs : List ℕ) (l : List ℕ) (p : ℕ) (rest : List ℕ) : Type 0 where
-  pub place : p + length rest ≡ i + length vs
-  pub same : length l ≡ length l₀
-  pub whole : write l p rest ≡ write l₀ i vs
-
-pub begins : (l : List ℕ) (i : ℕ) (vs : List ℕ) → Left l i vs l i vs
-begins l i vs = record { place = refl; same = refl; whole = refl }
-
--- The same at the place i + 0, of what is the same list.
-pub begins-at : (l : List ℕ) (i : ℕ) (vs : List ℕ) {us : List ℕ} → us ≡ vs → Left l i vs l (i + 0) us
-begins-at l i vs e = let z : i + 0 ≡ i = add-zero i in rw (e, z) (begins l i vs)
-
-pub goes_on :
-    {l₀ l : List ℕ} {i p q v : ℕ} {vs us rest : List ℕ}
-    → Left l₀ i vs l p us
-    → us ≡ v ∷ rest
-    → p + 1 ≡ q
-    → Left l₀ i vs (set l p v) q rest
-unfolding write
-goes_on {l₀} {l} {i} {p} {q} {v} {vs} {us} {rest} h e n =
-    let k : Left l₀ i vs l p (v ∷ rest) = rw e at h in
-    let next : q ≡ suc p = omega arith in
-    record {
-      place = omega (arith, k.place);
-      same = length-set l p v ∙ h.same;
-      whole = ap (λ (j : ℕ). write (set l p v) j rest) next ∙ k.whole;
-    }
-
-pub ends : {l₀ l : List ℕ} {i p q : ℕ} {vs us : List ℕ} → Left l₀ i vs l p us → us ≡ [] → p ≡ q → Wrote l₀ i vs l q
-unfolding write
-ends {l₀} {l} {i} {p} {q} {vs} {us} h e n =
-    let k : Left l₀ i vs l p [] = rw e at h in
-    record { next = omega (arith, k.place); holds = k.whole }

@@ -1,5 +1,3 @@
 pub mod Filled
 pub mod Laws
-pub mod Parts
-pub mod Sizes
 pub mod Spelled

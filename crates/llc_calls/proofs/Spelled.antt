@@ -1,12 +1,14 @@
--- Numbers in bytes: one behind another, and behind a part of the bytes.
-use Prim.Native.Nat.{ℕ, ◌+◌, ◌*◌, ◌^◌, ◌≤◌, ◌<◌}
+-- Numbers in bytes, one byte behind another.
+use Prim.Native.Nat.{ℕ, zero, suc, ◌+◌, ◌*◌, ◌^◌, ◌≤◌, ◌<◌}
 use native.Mathlib.Nat.{zero-mul, add-mul, mul_assoc}
 use native.Mathlib.Omega.{arith}
 use mathlib.Core.Path.{◌≡◌, ◌∙◌, ap}
 use mathlib.Core.List.{List, [], ◌∷◌, ◌++◌}
-use lib.ListN.{length, get_or, take, drop, length-append}
+use lib.ListN.{length, get_or, length-append}
 use lib.Pow.{pow-add}
-use lib.Seq.{drop-cons, drop-drop}
+use lib.Seq.{drop-cons}
+pub use Rattle.std.proofs.lemmas.List.{get_or-take}
+pub use Rattle.std.proofs.Math.Seq.{get_or-drop}
 use Rattle.bits.specs.Bits.{part}
 use Rattle.bits.proofs.Laws.{part-append, length_part}
 use Rattle.llc_rule.specs.Calls.{from_bytes, number_at}
@@ -29,20 +31,24 @@ number-one : (l : List ℕ) (i : ℕ) → i < length l → number_at l i 1 ≡ g
 unfolding from_bytes
 number-one l i h = rw (drop-cons l i 0 h) (omega arith)
 
-pub number-two : (l : List ℕ) (i : ℕ) → i + 2 ≤ length l → number_at l i 2 ≡ get_or l i 0 * 256 + get_or l (i + 1) 0
-number-two l i h =
-    let first = number-one l i (omega arith) in
-    let second = number-one l (i + 1) (omega arith) in
-    omega (arith, number-add l i 1 1 (omega arith))
+-- The number in one byte more, and what such numbers are below.
+pub number-next :
+    (l : List ℕ) (i n : ℕ)
+    → i + n < length l
+    → number_at l i (n + 1) ≡ number_at l i n * 256 + get_or l (i + n) 0
+number-next l i n h =
+    let last = number-one l (i + n) h in
+    omega (arith, number-add l i n 1 (omega arith))
 
-pub number-three : (l : List ℕ) (i : ℕ) → i + 3 ≤ length l → number_at l i 3 ≡ get_or l i 0 * 65536 + number_at l (i + 1) 2
-number-three l i h =
-    let first = number-one l i (omega arith) in
-    omega (arith, number-add l i 1 2 (omega arith))
+pub pow-next : (n : ℕ) → 256 ^ (n + 1) ≡ 256 ^ n * 256
+pow-next n = pow-add 256 n 1
 
-pub number-four : (l : List ℕ) (i : ℕ) → i + 4 ≤ length l → number_at l i 4 ≡ number_at l i 2 * 65536 + number_at l (i + 2) 2
-number-four l i h = omega (arith, number-add l i 2 2 (omega arith))
+pub pow_word : (n : ℕ) → n < 4 → 256 ^ n ≤ 2 ^ 24
+pow_word zero h = omega arith
+pow_word (suc zero) h = omega arith
+pow_word (suc (suc zero)) h = omega arith
+pow_word (suc (suc (suc zero))) h = omega arith
+pow_word (suc (suc (suc (suc n)))) h = absurd (omega arith)
 
--- The number in n bytes of what is behind the first k.
-pub number-drop : (k : ℕ) (l : List ℕ) (i n : ℕ) → number_at (drop k l) i n ≡ number_at l (k + i) n
-number-drop k l i n = ap (λ (t : List ℕ). from_bytes (take n t)) (drop-drop i k l)
+-- The number that one byte more makes.
+pub ruleset one_more = (number-next, pow-next, pow_word, get_or-take, get_or-drop)

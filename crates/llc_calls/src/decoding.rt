@@ -1,144 +1,171 @@
-// A call taken apart by its tag.
-ghost use Rattle.std.specs.Prelude.{◌+◌, ◌≤◌, true, ◌≡◌, length, drop};
-ghost use Rattle.llc_rule.specs.Calls.{filled_from, time_in, request_in, frame_in, tag_of, inner, parsed};
-ghost use Rattle.llc_calls.specs.Decoded.{decoded, Inside, inner_filled, request_of, frame_of, RequestInside, FrameInside};
+// A call taken apart: its tag, its length, and by its tag what is behind them.
+ghost use Rattle.std.specs.Prelude.{◌^◌, ◌≤◌, ◌<◌, true, false, ◌≡◌, length, MatchResult};
+ghost use Rattle.bits.specs.Parts.{bits_of};
+ghost use Rattle.llc_rule.specs.Calls.{filled_from, block_at, bits_at, time_in, request_in, frame_in, tag_of, inner, parsed};
+ghost use Rattle.llc_calls.specs.Decoded.{decoded, request_of, frame_of};
 
-use crate::numbers::{four, three, two};
-use crate::{Action, Decoded, FrameCall, RequestCall, Service};
+use crate::numbers::number;
+use crate::{Action, Call, FrameCall, RequestCall, Service};
 use bit_fields::get;
+use bits::Part;
+use questions::Refusal;
 use tdma_time::TdmaTime;
 
 /// The call that bytes spell, or that its lengths do not fill it or that its tag is not known.
-pub fn decode(bytes: &[u8]) -> Decoded
-    ensures bytes_value { decoded result bytes.now ≡ parsed bytes.now }
-    ensures inside { Inside result bytes.now }
+#[tactic(auto, unfolding(llc_rule::specs::Calls::parsed, llc_rule::specs::Calls::filled))]
+pub fn decode<'a>(bytes: &'a [u8]) -> Result<Call<'a>, Refusal>
+    ensures { decoded result ≡ parsed bytes.now }
 {
-    if bytes.len() < 3 {
-        return Decoded::Unfilled;
-    }
-    if bytes.len() != 3 + two(bytes, 1) as usize {
-        return Decoded::Unfilled;
-    }
-    let tag = bytes[0];
-    if !inner_filled(tag, bytes) {
-        return Decoded::Unfilled;
-    }
-    by_tag(tag, bytes)
+    filled(bytes.len() >= 3)?;
+    filled(bytes.len() == 3 + number(bytes, 1, 2) as usize)?;
+    by_tag(bytes[0], &bytes[3..])
 }
 
-// Do the inner lengths fill a call with this tag, or is the tag not known?
-fn inner_filled(tag: u8, bytes: &[u8]) -> bool
-    requires { 3 ≤ length bytes.now }
-    ensures { result ≡ inner_filled (inner (tag_of tag) (drop 3 bytes.now)) }
+// Number 2 where a call is not filled.
+fn filled(yes: bool) -> Result<(), Refusal>
+    ensures { MatchResult result (λ _. yes ≡ true) (λ r. (r ≡ Refusal.Unfilled) × (yes ≡ false)) }
+{
+    if yes { Ok(()) } else { Err(Refusal::Unfilled) }
+}
+
+// The call with this tag and what is behind its length, if the inner lengths fill that.
+#[tactic(auto, unfolding(llc_rule::specs::Calls::inner, llc_rule::specs::Calls::tag_of))]
+fn by_tag<'a>(tag: u8, value: &'a [u8]) -> Result<Call<'a>, Refusal>
+    ensures { decoded result ≡ inner (tag_of tag) value.now }
 {
     match tag {
-        0x21 => bytes.len() == 7,
-        0x22 => bytes.len() == 8,
-        0x23 => bytes.len() == 3,
-        0x24 => filled_from(bytes, 25),
-        0x25 => filled_from(bytes, 25),
-        0x26 => filled_from(bytes, 17),
-        0x27 => bytes.len() == 5,
-        0x28 => bytes.len() == 4,
-        _ => true,
+        0x21 => {
+            filled(value.len() == 4)?;
+            Ok(Call::Start(number(value, 0, 2) as u16, number(value, 2, 2) as u16))
+        }
+        0x22 => {
+            filled(value.len() == 5)?;
+            Ok(Call::TickStart(time(value)))
+        }
+        0x23 => {
+            filled(value.len() == 0)?;
+            Ok(Call::TickEnd)
+        }
+        0x24 => {
+            filled(filled_from(value, 22))?;
+            Ok(Call::Request(Service::TlData, request(value)))
+        }
+        0x25 => {
+            filled(filled_from(value, 22))?;
+            Ok(Call::Request(Service::TlUnitdata, request(value)))
+        }
+        0x26 => {
+            filled(filled_from(value, 14))?;
+            Ok(Call::Frame(frame(value)))
+        }
+        0x27 => {
+            filled(value.len() == 2)?;
+            Ok(Call::ByReceipt(value[0], Action::Report(value[1])))
+        }
+        0x28 => {
+            filled(value.len() == 1)?;
+            Ok(Call::ByReceipt(value[0], Action::Release))
+        }
+        _ => Err(Refusal::UnknownTag),
     }
 }
 
-// The call with this tag that its lengths fill.
-fn by_tag(tag: u8, bytes: &[u8]) -> Decoded
-    requires in_bounds { 3 ≤ length bytes.now }
-    requires bytes_value { inner_filled (inner (tag_of tag) (drop 3 bytes.now)) ≡ true }
-    ensures bytes_value_2 { decoded result bytes.now ≡ inner (tag_of tag) (drop 3 bytes.now) }
-    ensures inside { Inside result bytes.now }
+// Do a block and bits from a place on fill the rest, the spare bits zero?
+#[tactic(auto, using(crate::proofs::Filled::filling))]
+fn filled_from(value: &[u8], at: usize) -> bool
+    requires { at ≤ 22 }
+    ensures { result ≡ filled_from value.now at }
 {
-    match tag {
-        0x21 => Decoded::Start(two(bytes, 3), two(bytes, 5)),
-        0x22 => Decoded::TickStart(time(bytes)),
-        0x23 => Decoded::TickEnd,
-        0x24 => Decoded::Request(Service::TlData, request(bytes)),
-        0x25 => Decoded::Request(Service::TlUnitdata, request(bytes)),
-        0x26 => Decoded::Frame(frame(bytes)),
-        0x27 => Decoded::ByReceipt(bytes[3], Action::Report(bytes[4])),
-        0x28 => Decoded::ByReceipt(bytes[3], Action::Release),
-        _ => Decoded::Unknown,
-    }
-}
-
-// Do a block and bits from a place on fill the rest of a call, the spare bits zero?
-fn filled_from(bytes: &[u8], at: usize) -> bool
-    requires { at ≤ 25 }
-    ensures { result ≡ filled_from bytes.now at }
-{
-    if bytes.len() < at + 3 {
+    if value.len() < at + 3 {
         return false;
     }
-    let first = at + 3 + bytes[at] as usize;
-    if bytes.len() < first {
+    let first = at + 3 + value[at] as usize;
+    if value.len() < first {
         return false;
     }
-    let count = two(bytes, first - 2) as usize;
-    if bytes.len() != first + (count + 7) / 8 {
+    let count = number(value, first - 2, 2) as usize;
+    if value.len() != first + (count + 7) / 8 {
         return false;
     }
-    get(bytes, 8 * first + count, (8 - count % 8) % 8) == 0
+    get(value, 8 * first + count, (8 - count % 8) % 8) == 0
 }
 
 // h of two bytes, m, f and t.
-fn time(bytes: &[u8]) -> TdmaTime
-    requires { 8 ≤ length bytes.now }
-    ensures { result ≡ time_in (drop 3 bytes.now) }
+fn time(value: &[u8]) -> TdmaTime
+    requires { 5 ≤ length value.now }
+    ensures { result ≡ time_in value.now }
 {
     TdmaTime {
-        t: bytes[7],
-        f: bytes[6],
-        m: bytes[5],
-        h: two(bytes, 3),
+        t: value[4],
+        f: value[3],
+        m: value[2],
+        h: number(value, 0, 2) as u16,
     }
 }
 
-// The parts of a request whose lengths fill its call.
-fn request(bytes: &[u8]) -> RequestCall
-    requires { filled_from bytes.now 25 ≡ true }
-    ensures bytes_value { request_of result bytes.now ≡ request_in (drop 3 bytes.now) }
-    ensures inside { RequestInside result bytes.now }
+// The block from a place on, where it and bits fill the rest.
+#[tactic(auto, using(crate::proofs::Filled::room))]
+fn block<'a>(value: &'a [u8], at: usize) -> &'a [u8]
+    requires at_bound { at ≤ 22 }
+    requires filled { filled_from value.now at ≡ true }
+    ensures block { result.now ≡ block_at value.now at }
+    ensures len_bound { length result.now < 2 ^ 8 }
 {
-    let block_len = bytes[25] as usize;
-    let sdu_len = two(bytes, 26 + block_len) as usize;
+    &value[at + 1..at + 1 + value[at] as usize]
+}
+
+// The bits behind that block.
+#[tactic(auto, using(crate::proofs::Filled::room))]
+fn bits<'a>(value: &'a [u8], at: usize) -> Part<'a>
+    requires at_bound { at ≤ 22 }
+    requires filled { filled_from value.now at ≡ true }
+    ensures bits { bits_of result ≡ bits_at value.now at }
+    ensures place { result.place ≡ 0 }
+    ensures len_bound { result.len < 2 ^ 16 }
+{
+    let count = at + 1 + value[at] as usize;
+    Part {
+        bytes: &value[count + 2..],
+        place: 0,
+        len: number(value, count, 2) as usize,
+    }
+}
+
+// The request that fills its call.
+#[tactic(auto, using(crate::proofs::Filled::room), unfolding(crate::specs::Decoded::request_of, llc_rule::specs::Calls::request_in))]
+fn request<'a>(value: &'a [u8]) -> RequestCall<'a>
+    requires { filled_from value.now 22 ≡ true }
+    ensures { request_of result ≡ request_in value.now }
+{
     RequestCall {
-        ssi: three(bytes, 3),
-        ssi_type: bytes[6],
-        given: bytes[7],
-        carrier: two(bytes, 8),
-        link: four(bytes, 10),
-        endpoint: four(bytes, 14),
-        handle: four(bytes, 18),
-        flags: bytes[22],
-        mask: bytes[23],
-        receipt: bytes[24],
-        block: 26,
-        block_len,
-        sdu: 28 + block_len,
-        sdu_len,
+        ssi: number(value, 0, 3),
+        ssi_type: value[3],
+        given: value[4],
+        carrier: number(value, 5, 2) as u16,
+        link: number(value, 7, 4),
+        endpoint: number(value, 11, 4),
+        handle: number(value, 15, 4),
+        flags: value[19],
+        mask: value[20],
+        receipt: value[21],
+        block: block(value, 22),
+        sdu: bits(value, 22),
     }
 }
 
-// The parts of a frame whose lengths fill its call.
-fn frame(bytes: &[u8]) -> FrameCall
-    requires { filled_from bytes.now 17 ≡ true }
-    ensures bytes_value { frame_of result bytes.now ≡ frame_in (drop 3 bytes.now) }
-    ensures inside { FrameInside result bytes.now }
+// The frame that fills its call.
+#[tactic(auto, using(crate::proofs::Filled::room), unfolding(crate::specs::Decoded::frame_of, llc_rule::specs::Calls::frame_in))]
+fn frame<'a>(value: &'a [u8]) -> FrameCall<'a>
+    requires { filled_from value.now 14 ≡ true }
+    ensures { frame_of result ≡ frame_in value.now }
 {
-    let block_len = bytes[17] as usize;
-    let pdu_len = two(bytes, 18 + block_len) as usize;
     FrameCall {
-        ssi: three(bytes, 3),
-        ssi_type: bytes[6],
-        carrier: two(bytes, 7),
-        link: four(bytes, 9),
-        endpoint: four(bytes, 13),
-        block: 18,
-        block_len,
-        pdu: 20 + block_len,
-        pdu_len,
+        ssi: number(value, 0, 3),
+        ssi_type: value[3],
+        carrier: number(value, 4, 2) as u16,
+        link: number(value, 6, 4),
+        endpoint: number(value, 10, 4),
+        block: block(value, 14),
+        pdu: bits(value, 14),
     }
 }

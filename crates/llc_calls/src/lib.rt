@@ -1,17 +1,19 @@
 // The calls of a basic link, taken apart from lent bytes, and whether their values are in range.
 #![tactic(auto)]
 
+ghost use Rattle.std.specs.Prelude.{◌^◌, ◌<◌, ◌≡◌, length};
+
 mod decoding;
 mod numbers;
 mod ranges;
 
+use bits::Part;
 pub use decoding::decode;
-pub use ranges::in_range;
 use tdma_time::TdmaTime;
 
-/// A data or unitdata request, and where its block and its SDU lie in its call.
+/// A data or unitdata request, with its block and its SDU lent from its call.
 #[derive(Clone, Copy)]
-pub struct RequestCall {
+pub struct RequestCall<'a> {
     /// The address, of 24 bits.
     pub ssi: u32,
     /// 1 for an individual address, 2 for a group's.
@@ -32,19 +34,19 @@ pub struct RequestCall {
     pub mask: u8,
     /// The receipt's number.
     pub receipt: u8,
-    /// The place of the block's first byte in the call.
-    pub block: usize,
-    /// How many bytes the block has.
-    pub block_len: usize,
-    /// The place of the first byte of the SDU's bits in the call.
-    pub sdu: usize,
-    /// How many bits the SDU has.
-    pub sdu_len: usize,
+    /// The block, of less than 256 bytes.
+    pub block: &'a [u8],
+    /// The SDU's bits, less than 65,536 of them from a byte's first bit on.
+    pub sdu: Part<'a>,
+    ghost address: { ssi < 2 ^ 24 },
+    ghost block_len: { length block.now < 2 ^ 8 },
+    ghost whole: { sdu.place ≡ 0 },
+    ghost sdu_len: { sdu.len < 2 ^ 16 },
 }
 
-/// A frame, and where its block and its PDU lie in its call.
+/// A frame, with its block and its PDU lent from its call.
 #[derive(Clone, Copy)]
-pub struct FrameCall {
+pub struct FrameCall<'a> {
     /// The address, of 24 bits.
     pub ssi: u32,
     /// 1 for an individual address, 2 for a group's.
@@ -55,14 +57,14 @@ pub struct FrameCall {
     pub link: u32,
     /// The endpoint id.
     pub endpoint: u32,
-    /// The place of the block's first byte in the call.
-    pub block: usize,
-    /// How many bytes the block has.
-    pub block_len: usize,
-    /// The place of the first byte of the PDU's bits in the call.
-    pub pdu: usize,
-    /// How many bits the PDU has.
-    pub pdu_len: usize,
+    /// The block, of less than 256 bytes.
+    pub block: &'a [u8],
+    /// The PDU's bits, less than 65,536 of them from a byte's first bit on.
+    pub pdu: Part<'a>,
+    ghost address: { ssi < 2 ^ 24 },
+    ghost block_len: { length block.now < 2 ^ 8 },
+    ghost whole: { pdu.place ≡ 0 },
+    ghost pdu_len: { pdu.len < 2 ^ 16 },
 }
 
 /// The service that a request asks for.
@@ -83,9 +85,9 @@ pub enum Action {
     Release,
 }
 
-/// What taking a call apart gives.
+/// A call.
 #[derive(Clone, Copy)]
-pub enum Decoded {
+pub enum Call<'a> {
     /// The main carrier and T251.
     Start(u16, u16),
     /// The time.
@@ -93,13 +95,9 @@ pub enum Decoded {
     /// A tick end.
     TickEnd,
     /// A request for a service.
-    Request(Service, RequestCall),
+    Request(Service, RequestCall<'a>),
     /// A frame.
-    Frame(FrameCall),
+    Frame(FrameCall<'a>),
     /// A receipt, and what is done by it.
     ByReceipt(u8, Action),
-    /// The lengths do not fill the call, or a spare bit is not zero (number 2).
-    Unfilled,
-    /// The tag is not known (number 3).
-    Unknown,
 }

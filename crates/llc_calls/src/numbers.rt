@@ -1,28 +1,18 @@
-// Big-endian numbers of two, three and four lent bytes.
+// Big-endian numbers of lent bytes.
 ghost use Rattle.std.specs.Prelude.{◌+◌, ◌^◌, ◌≤◌, ◌<◌, ◌≡◌, length};
 ghost use Rattle.llc_rule.specs.Calls.{number_at};
 
-// The number in two bytes from a place on.
-pub(crate) fn two(bytes: &[u8], at: usize) -> u16
-    requires { at + 2 ≤ length bytes.now }
-    ensures { result ≡ number_at bytes.now at 2 }
+// The number in n bytes from a place on.
+#[tactic(auto, using(crate::proofs::Spelled::one_more), unfolding(llc_rule::specs::Calls::from_bytes))]
+pub(crate) fn number(bytes: &[u8], at: usize, n: usize) -> u32
+    requires n_bound { n ≤ 4 }
+    requires n_in_bounds { at + n ≤ length bytes.now }
+    ensures value { result ≡ number_at bytes.now at n }
+    ensures upper_bound { result < 256 ^ n }
 {
-    (bytes[at] as u16) * 256 + bytes[at + 1] as u16
-}
-
-// The number in three.
-pub(crate) fn three(bytes: &[u8], at: usize) -> u32
-    requires { at + 3 ≤ length bytes.now }
-    ensures value { result ≡ number_at bytes.now at 3 }
-    ensures upper_bound { result < 2 ^ 24 }
-{
-    (bytes[at] as u32) * 65536 + two(bytes, at + 1) as u32
-}
-
-// The number in four.
-pub(crate) fn four(bytes: &[u8], at: usize) -> u32
-    requires { at + 4 ≤ length bytes.now }
-    ensures { result ≡ number_at bytes.now at 4 }
-{
-    (two(bytes, at) as u32) * 65536 + two(bytes, at + 2) as u32
+    let mut number: u32 = 0;
+    for b in &bytes[at..at + n] {
+        number = number * 256 + *b as u32;
+    }
+    number
 }

@@ -4,31 +4,33 @@ ghost use Rattle.llc_rule.specs.Ranges.{action_in_range};
 ghost use Rattle.llc_calls.specs.Decoded.{action_of};
 ghost use Rattle.llc_calls.specs.Ranges.{in_range_of, request_range, frame_range};
 
-use crate::{Action, Decoded, FrameCall, RequestCall};
+use crate::{Action, Call, FrameCall, RequestCall};
 use llc_pdus::N251_BL_MAX_TLSDU_LEN_BITS;
 
 // The longest frame that comes in, in bits.
 const LONGEST_FRAME: usize = 2633;
 
-/// Are the values of a call in range? No for what is no call.
-pub fn in_range(call: Decoded) -> bool
-    ensures { result ≡ in_range_of call }
-{
-    match call {
-        Decoded::Start(_, t251) => t251 != 0,
-        Decoded::TickStart(time) => time.is_valid(),
-        Decoded::TickEnd => true,
-        Decoded::Request(_, q) => request_in_range(q),
-        Decoded::Frame(f) => frame_in_range(f),
-        Decoded::ByReceipt(receipt, action) => (receipt < 128) & action_in_range(action),
-        Decoded::Unfilled => false,
-        Decoded::Unknown => false,
+impl<'a> Call<'a> {
+    /// Are the values of this call in range?
+    #[tactic(auto, unfolding(crate::specs::Ranges::in_range_of))]
+    pub fn in_range(&self) -> bool
+        ensures { result ≡ in_range_of self.now }
+    {
+        match self {
+            Call::Start(_, t251) => *t251 != 0,
+            Call::TickStart(time) => time.is_valid(),
+            Call::TickEnd => true,
+            Call::Request(_, q) => request_in_range(q),
+            Call::Frame(f) => frame_in_range(f),
+            Call::ByReceipt(receipt, action) => (*receipt < 128) & action_in_range(*action),
+        }
     }
 }
 
 // Type, carrier-given, carrier 0 if not given, flags, mask and 0 without flag 4, receipt, block and SDU.
-fn request_in_range(q: RequestCall) -> bool
-    ensures { result ≡ request_range q }
+#[tactic(auto, unfolding(crate::specs::Ranges::request_range))]
+fn request_in_range(q: &RequestCall) -> bool
+    ensures { result ≡ request_range q.now }
 {
     ((q.ssi_type == 1) | (q.ssi_type == 2))
         & (q.given <= 1)
@@ -37,15 +39,16 @@ fn request_in_range(q: RequestCall) -> bool
         & (q.mask < 16)
         & ((q.flags / 4 % 2 == 1) | (q.mask == 0))
         & (q.receipt < 128)
-        & (q.block_len <= 64)
-        & (q.sdu_len <= N251_BL_MAX_TLSDU_LEN_BITS)
+        & (q.block.len() <= 64)
+        & (q.sdu.len <= N251_BL_MAX_TLSDU_LEN_BITS)
 }
 
 // Type, block and PDU.
-fn frame_in_range(f: FrameCall) -> bool
-    ensures { result ≡ frame_range f }
+#[tactic(auto, unfolding(crate::specs::Ranges::frame_range))]
+fn frame_in_range(f: &FrameCall) -> bool
+    ensures { result ≡ frame_range f.now }
 {
-    ((f.ssi_type == 1) | (f.ssi_type == 2)) & (f.block_len <= 64) & (f.pdu_len <= LONGEST_FRAME)
+    ((f.ssi_type == 1) | (f.ssi_type == 2)) & (f.block.len() <= 64) & (f.pdu.len <= LONGEST_FRAME)
 }
 
 // The value of a report.

@@ -1,4 +1,3 @@
-pub mod Numbered
 pub mod Found
+pub mod Heard
 pub mod Paths
-pub mod Slot

@@ -1,7 +1,11 @@
--- The message that an acknowledgement is for, by its place in the queue.
-use Rattle.std.specs.Prelude.{ℕ, List, [], ◌∷◌, drop}
+-- What an acknowledgement does to the message of a place.
+use Rattle.std.specs.Prelude.{ℕ, Bool, Option as Given, Some, None, List, [], ◌∷◌, drop}
+use Rattle.std.proofs.Math.Option.{Option, none, some}
 use Rattle.lists.specs.Lists.{Found, nothing, first}
 use Rattle.lists.specs.Arrays.{without}
+use Rattle.llc_state.specs.declared.State.{State}
+use Rattle.llc_steps.specs.Calls.{answered_by}
+use Rattle.llc_steps.specs.States.{messages_of}
 
 -- What stands in a place of a queue, if anything does, and the others.
 abbrev pub found_in : {A : Type 0} → List A → List A → Found A
@@ -10,3 +14,9 @@ found_in (x ∷ xs) others = first x others
 
 abbrev pub found_at : {A : Type 0} → ℕ → List A → Found A
 found_at i l = found_in (drop i l) (without i l)
+
+-- The state after an N(R), for the message of a place; as it was where either is missing.
+abbrev pub acked_at : Given ℕ → Option Bool → State → State
+acked_at (Some i) (some nr) s = answered_by nr (found_at i (messages_of s)) s
+acked_at (Some i) none s = s
+acked_at None nr s = s

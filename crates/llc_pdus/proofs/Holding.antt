@@ -8,7 +8,8 @@ use lib.ListN.{length, take, drop, length-take, length-drop}
 use lib.Seq.{drop-drop}
 use Rattle.bits.specs.Bits.{bits, part}
 use Rattle.bits.proofs.Laws.{length-bits, length_part, drop_bits, take-bits, part-take}
-use Rattle.llc_pdus.specs.Sdus.{sdu_at, holding, handed, numbered, handed_back}
+use Rattle.questions.specs.Outcome.{Outcome, accepted, refused}
+use Rattle.llc_pdus.specs.Sdus.{sdu_at, holding, handed}
 use Rattle.llc_pdus.specs.declared.Sdu.{Sdu}
 
 -- The byte behind the last one, as the code counts it: no sum passes a usize.
@@ -17,24 +18,24 @@ behind first n = first / 8 + n / 8 + (first % 8 + n % 8 + 7) / 8
 
 -- What is handed back of an SDU that does not lie in the frame, of an empty one, and of one with bits.
 module _ (f : List ℕ) (s : Sdu) where
-  pub outside : length f < behind s.first s.len → numbered 5 [] ≡ handed_back (handed f s)
+  pub outside : length f < behind s.first s.len → refused 5 ≡ handed f s
   outside h = rw (lt-leb (s.first + s.len) (8 * length f) (omega arith))
 
-  inside_is : behind s.first s.len ≤ length f → handed_back (handed f s) ≡ numbered 0 (holding f s.first s.len)
+  inside_is : behind s.first s.len ≤ length f → handed f s ≡ accepted (holding f s.first s.len)
   inside_is h = rw (le-leb (s.first + s.len) (8 * length f) (omega arith))
 
-  pub none : behind s.first s.len ≤ length f → s.len ≡ 0 → numbered 0 [] ≡ handed_back (handed f s)
+  pub none : behind s.first s.len ≤ length f → s.len ≡ 0 → accepted [] ≡ handed f s
   unfolding holding
   none h e = sym (inside_is h ∙ rw (le-ltb 0 s.len (omega arith)))
 
   pub held :
       behind s.first s.len ≤ length f
       → 0 < s.len
-      → numbered 0 (take (behind s.first s.len - s.first / 8) (drop (s.first / 8) f)) ≡ handed_back (handed f s)
+      → accepted (take (behind s.first s.len - s.first / 8) (drop (s.first / 8) f)) ≡ handed f s
   unfolding holding
   held h some =
       let last : behind s.first s.len ≡ (s.first + s.len + 7) / 8 = omega arith in
-      ap (λ (k : ℕ). numbered 0 (take (k - s.first / 8) (drop (s.first / 8) f))) last
+      ap (λ (k : ℕ). accepted (take (k - s.first / 8) (drop (s.first / 8) f))) last
       ∙ sym (inside_is h ∙ rw (lt-ltb 0 s.len some))
 
 -- The bytes hold the bits, from the place beside them on.
@@ -83,8 +84,8 @@ held-is f first (suc m) h =
 
 -- What is handed back of an SDU that lies in the frame.
 pub handed-in :
-    (f : List ℕ) (s : Sdu) {k : ℕ} {b : List ℕ}
+    (f : List ℕ) (s : Sdu) {o : Outcome (List ℕ)}
     → s.first + s.len ≤ 8 * length f
-    → numbered k b ≡ handed_back (handed f s)
-    → numbered k b ≡ numbered 0 (holding f s.first s.len)
+    → o ≡ handed f s
+    → o ≡ accepted (holding f s.first s.len)
 handed-in f s h e = e ∙ rw (le-leb (s.first + s.len) (8 * length f) h)

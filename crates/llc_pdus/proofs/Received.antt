@@ -13,16 +13,17 @@ use Rattle.bits.specs.Bits.{AllBits, bits, value, part}
 use Rattle.bits.proofs.Laws.{length-bits, length_part, part-take, drop_bits, all_take, all_drop}
 use Rattle.fcs.specs.Answers as Fcs
 use Rattle.fcs.specs.Fcs.{fcs_bits, fcs}
+use Rattle.std.specs.Prelude.{Result, Ok, Err}
+use Rattle.questions.specs.Refusals.{number_of}
+use Rattle.questions.specs.declared.Refusal.{Refusal}
 use Rattle.questions.specs.Outcome.{Outcome, accepted, refused, ask, number}
 use Rattle.questions.proofs.Asked.{content, accepted-passed, by-question, both}
-use Rattle.llc_pdus.specs.Answers.{Frame, headed, pdu_in, head_from, answered, sdu_of, framed, read_from}
+use Rattle.llc_pdus.specs.Answers.{Frame, pdu_in, head_from, answered, sdu_of, framed, read_from}
 use Rattle.llc_pdus.specs.Headers.{header, Reading, reading, reading_of, has_fcs, length_of, kind_at, one}
 use Rattle.llc_pdus.specs.Frames.{check_bits}
 use Rattle.llc_pdus.specs.Received.{Received, checks, sdu_before, checked, received}
 use Rattle.llc_pdus.specs.Sdus.{sdu_at, header_end}
-use Rattle.llc_pdus.specs.declared.headers.Head.{Head}
 use Rattle.llc_pdus.specs.declared.Pdu.{Pdu}
-use Rattle.llc_pdus.specs.declared.Read.{Read}
 use Rattle.llc_pdus.specs.declared.Sdu.{Sdu}
 use Rattle.llc_pdus.proofs.FirstByte.{header-length}
 use Rattle.llc_pdus.proofs.Laws.{header-ends}
@@ -109,30 +110,31 @@ pub record SduIn (s : Sdu) (n : ℕ) : Type 0 where
   pub inside : s.first + s.len ≤ n
   pub placed : s ≡ sdu_at s.first s.len
 
-abbrev pub SduInside : Read → ℕ → Type 0
-SduInside (Read.Frame p s) n = SduIn s n
-SduInside (Read.Refused k) n = Unit {0}
+abbrev pub SduInside : Result (Pdu × Sdu) Refusal → ℕ → Type 0
+SduInside (Ok f) n = SduIn f.1 n
+SduInside (Err r) n = Unit {0}
 
-abbrev pub received_as : Read → List ℕ → Outcome Received
-received_as (Read.Frame p s) l = accepted (record { header = p; sdu = part l s.first s.len })
-received_as (Read.Refused k) l = refused k
+abbrev pub received_as : Result (Pdu × Sdu) Refusal → List ℕ → Outcome Received
+received_as (Ok f) l = accepted (record { header = f.0; sdu = part l f.1.first f.1.len })
+received_as (Err r) l = refused (number_of r)
 
-pub record ReadAs (r : Read) (l : List ℕ) (n : ℕ) : Type 0 where
+pub record ReadAs (r : Result (Pdu × Sdu) Refusal) (l : List ℕ) (n : ℕ) : Type 0 where
   pub same : received_as r (take n l) ≡ received (take n l)
   pub inside : SduInside r n
 
-pub read_as : (r : Read) (l : List ℕ) (n : ℕ) → n ≤ length l → answered r ≡ read_from l n → ReadAs r l n
+pub read_as : (r : Result (Pdu × Sdu) Refusal) (l : List ℕ) (n : ℕ) → n ≤ length l → answered r ≡ read_from l n → ReadAs r l n
 read_as r l n h e =
     go r (received (take n l)) refl (e ∙ rw (le-leb n (length l) h))
   where
-    go : (r : Read) (o : Outcome Received) → received (take n l) ≡ o → answered r ≡ framed n o → ReadAs r l n
-    go (Read.Frame p s) (accepted x) q t =
+    go : (r : Result (Pdu × Sdu) Refusal) (o : Outcome Received) → received (take n l) ≡ o → answered r ≡ framed n o → ReadAs r l n
+    go (Ok f) (accepted x) q t =
+        let s : Sdu = f.1 in
         let long : length (take n l) ≡ n = length-take-le n l h in
         let k = taken (take n l) x q in
-        let is : ◌≡◌ {A = Frame} (record { pdu = p; sdu = s }) (record { pdu = x.header; sdu = sdu_of n x.header }) =
-        ap (content (record { pdu = p; sdu = s })) t in
+        let is : ◌≡◌ {A = Frame} (record { pdu = f.0; sdu = s }) (record { pdu = x.header; sdu = sdu_of n x.header }) =
+        ap (content (record { pdu = f.0; sdu = s })) t in
         let place : s ≡ sdu_of (length (take n l)) x.header = ap (λ (y : Frame). y.sdu) is ∙ ap (λ (m : ℕ). sdu_of m x.header) (sym long) in
-        let pdu : p ≡ x.header = ap (λ (y : Frame). y.pdu) is in
+        let pdu : f.0 ≡ x.header = ap (λ (y : Frame). y.pdu) is in
         record {
           same =
               sym
@@ -144,9 +146,9 @@ read_as r l n h e =
               subst (λ (y : Sdu). SduIn y n) (sym place)
               (record { inside = omega (arith, k.inside); placed = refl });
         }
-    go (Read.Frame p s) (refused j) q t = let z : ◌≡◌ {A = ℕ} 0 1 = cc in absurd (omega arith)
-    go (Read.Refused j) (accepted x) q t = let z : ◌≡◌ {A = ℕ} 0 1 = cc in absurd (omega arith)
-    go (Read.Refused j) (refused i) q t = record { same = ap refused (ap number t) ∙ sym q; inside = tt }
+    go (Ok f) (refused j) q t = let z : ◌≡◌ {A = ℕ} 0 1 = cc in absurd (omega arith)
+    go (Err r) (accepted x) q t = let z : ◌≡◌ {A = ℕ} 0 1 = cc in absurd (omega arith)
+    go (Err r) (refused i) q t = record { same = ap refused (ap number t) ∙ sym q; inside = tt }
 
 -- The bytes from a place on, as they are lent.
 pub lent : (b : List ℕ) (at : ℕ) → take (length b - at) (drop at b) ≡ drop at b
@@ -236,7 +238,7 @@ apart-at f n r h e =
           ∙ ap (λ (x : List ℕ). ask 12 (checks x) (accepted tt)) (last.same ∙ sym cut ∙ all);
     }
 
-pub apart : (f : List ℕ) (n : ℕ) (p : Pdu) → headed (Head.Of p) ≡ head_from (bits f) n → Apart f n p
+pub apart : (f : List ℕ) (n : ℕ) (p : Pdu) → accepted p ≡ head_from (bits f) n → Apart f n p
 apart f n p e =
     let a = accepted-passed 5 (leb n (length (bits f))) e in
     go (reading (take n (bits f))) refl a.1 (leb-true n (length (bits f)) a.0)
@@ -260,14 +262,10 @@ refused-so l n k e = go (leb n (length l)) (reading (take n l)) refl refl e
     go true (accepted r) h q t = let z : ◌≡◌ {A = ℕ} 0 1 = cc in absurd (omega arith)
     go true (refused j) h q t = rw (h, q) (ap refused (ap number t))
 
--- Question 12 is not put; the check answers yes, answers no, or that the bits do not lie in the bytes, which does not happen.
-refused-failed : {A : Type 0} (k : ℕ) (b : Bool) (x : A) → refused k ≡ ask k b (accepted x) → b ≡ false
-refused-failed k false x e = refl
-refused-failed k true x e = let z : ◌≡◌ {A = ℕ} 0 1 = cc in absurd (omega arith)
-
-never-five : {G : Type 0} (b : Bool) → ◌≡◌ {A = Outcome (Unit {0})} (refused 5) (ask 12 b (accepted tt)) → G
-never-five true e = absurd (omega (arith, ap number e))
-never-five false e = absurd (omega (arith, ap number e))
+-- Question 12 is not put; the check answers yes, or refuses, which is by question 12.
+refused-twelve : (k : ℕ) (b : Bool) → ◌≡◌ {A = Outcome (Unit {0})} (refused k) (ask 12 b (accepted tt)) → (b ≡ false) × (k ≡ 12)
+refused-twelve k false e = (refl, ap number e)
+refused-twelve k true e = let z : ◌≡◌ {A = ℕ} 0 1 = cc in absurd (omega arith)
 
 checks-long : (l : List ℕ) → checks l ≡ true → fcs_bits ≤ length l
 unfolding checks
@@ -283,10 +281,10 @@ module _ {f : List ℕ} {n : ℕ} {p : Pdu} (a : Apart f n p) where
   read_is : {o : Outcome Received} → received (take n (bits f)) ≡ o → framed n o ≡ read_from (bits f) n
   read_is e = sym (rw (le-leb n (length (bits f)) a.fits) (ap (framed n) e))
 
-  pub unchecked : has_fcs p ≡ false → answered (Read.Frame p (sdu_of n p)) ≡ read_from (bits f) n
+  pub unchecked : has_fcs p ≡ false → accepted (record { pdu = p; sdu = sdu_of n p }) ≡ read_from (bits f) n
   unchecked h = read_is {o = accepted (parts_of p (take n (bits f)))} (a.asks ∙ rw h)
 
-  pub right : accepted tt ≡ check_behind f p (n - length (header p)) → answered (Read.Frame p (sdu_of n p)) ≡ read_from (bits f) n
+  pub right : accepted tt ≡ check_behind f p (n - length (header p)) → accepted (record { pdu = p; sdu = sdu_of n p }) ≡ read_from (bits f) n
   right e =
       let yes = (accepted-passed 12 (checks (behind p (take n (bits f)))) (e ∙ a.check)).0 in
       read_is {o = accepted (parts_of p (take n (bits f)))} (a.asks ∙ rw (yes, or-true (not (has_fcs p))))
@@ -298,10 +296,7 @@ module _ {f : List ℕ} {n : ℕ} {p : Pdu} (a : Apart f n p) where
       omega
       (arith, checks-long (behind p (take n (bits f))) b, length-drop (length (header p)) (take n (bits f)), length-take-le n (bits f) a.fits)
 
-  pub wrong : has_fcs p ≡ true → refused 12 ≡ check_behind f p (n - length (header p)) → answered (Read.Refused 12) ≡ read_from (bits f) n
-  wrong h e =
-      let no = refused-failed 12 (checks (behind p (take n (bits f)))) tt (e ∙ a.check) in
-      read_is {o = refused 12} (a.asks ∙ rw (h, no))
-
-  pub inside-bytes : {G : Type 0} → refused 5 ≡ check_behind f p (n - length (header p)) → G
-  inside-bytes e = never-five (checks (behind p (take n (bits f)))) (e ∙ a.check)
+  pub wrong : (k : ℕ) → has_fcs p ≡ true → refused k ≡ check_behind f p (n - length (header p)) → refused k ≡ read_from (bits f) n
+  wrong k h e =
+      let no = refused-twelve k (checks (behind p (take n (bits f)))) (e ∙ a.check) in
+      ap refused no.1 ∙ read_is {o = refused 12} (a.asks ∙ rw (h, no.0))

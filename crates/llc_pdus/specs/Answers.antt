@@ -1,36 +1,24 @@
--- What each answer says: document 01's number and the values, for each of its cases.
-use Rattle.std.specs.Prelude.{ℕ, ◌-◌, List, leb, length, take}
+-- What reading a frame answers: document 01's number and the values, for each of its cases.
+use Rattle.std.specs.Prelude.{ℕ, ◌-◌, List, leb, length, take, Result, Ok, Err}
 use Rattle.questions.specs.Outcome.{Outcome, accepted, refused, ask}
+use Rattle.questions.specs.Refusals.{number_of}
+use Rattle.questions.specs.declared.Refusal.{Refusal}
 use Rattle.llc_pdus.specs.Headers.{Reading, reading, header}
 use Rattle.llc_pdus.specs.Frames.{check_bits}
 use Rattle.llc_pdus.specs.Received.{Received, received}
 use Rattle.llc_pdus.specs.Sdus.{sdu_at}
-use Rattle.llc_pdus.specs.declared.headers.Head.{Head}
 use Rattle.llc_pdus.specs.declared.Pdu.{Pdu}
 use Rattle.llc_pdus.specs.declared.Sdu.{Sdu}
-use Rattle.llc_pdus.specs.declared.Read.{Read}
-use Rattle.llc_pdus.specs.declared.Written.{Written}
 
 -- A frame taken apart: its PDU, and where its SDU lies.
 pub record Frame : Type 0 where
   pub pdu : Pdu
   pub sdu : Sdu
 
--- What a `Read` says.
-abbrev pub answered : Read → Outcome Frame
-answered (Read.Frame p s) = accepted (record { pdu = p; sdu = s })
-answered (Read.Refused n) = refused n
-
--- What a `Head` says.
-abbrev pub headed : Head → Outcome Pdu
-headed (Head.Of p) = accepted p
-headed (Head.Refused n) = refused n
-
--- What a `Written` says: the frame's length in bits.
-abbrev pub written : Written → Outcome ℕ
-written (Written.Bits n) = accepted n
-written Written.OutOfRange = refused 5
-written Written.NoRoom = refused 8
+-- What reading a frame answers.
+abbrev pub answered : Result (Pdu × Sdu) Refusal → Outcome Frame
+answered (Ok f) = accepted (record { pdu = f.0; sdu = f.1 })
+answered (Err r) = refused (number_of r)
 
 -- The PDU that a header is.
 abbrev pub pdu_in : Outcome Reading → Outcome Pdu

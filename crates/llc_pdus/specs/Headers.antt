@@ -1,5 +1,6 @@
 -- The headers of the four basic link PDUs, as document 01's paragraph on frames gives them, and questions 9, 10 and 11.
 use Rattle.std.specs.Prelude.{ℕ, Bool, true, false, not, List, [], ◌∷◌, leb, eqb, length, get_or}
+use Rattle.std.specs.Prelude.{Option as Given, Some, None}
 use Rattle.std.proofs.Math.Option.{Option, none, some}
 use Rattle.questions.specs.Outcome.{Outcome, accepted, ask}
 use Rattle.llc_pdus.specs.declared.Pdu.{Pdu}
@@ -37,6 +38,11 @@ nr_of (BlAdata f nr ns) = some nr
 nr_of (BlData f ns) = none
 nr_of (BlUdata f) = none
 nr_of (BlAck f nr) = some nr
+
+-- An option that the code gives, as one of the definitions.
+abbrev pub option_of : {A : Type 0} → Given A → Option A
+option_of (Some a) = some a
+option_of None = none
 
 -- The type by its two bits, and how long its header is.
 pub data Kind : Type 0 where

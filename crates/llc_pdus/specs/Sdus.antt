@@ -1,6 +1,9 @@
 -- Where a header ends and an SDU lies in a frame, and the bytes of the frame that hold it.
-use Rattle.std.specs.Prelude.{ℕ, ◌+◌, ◌-◌, ◌*◌, ◌/◌, ◌%◌, cond, List, [], leb, ltb, eqb, length, take, drop}
+use denote.Ref.{Bor}
+use Rattle.std.specs.Prelude.{ℕ, ◌+◌, ◌-◌, ◌*◌, ◌/◌, ◌%◌, cond, List, [], leb, ltb, eqb, length, take, drop, Result, Ok, Err}
 use Rattle.questions.specs.Outcome.{Outcome, accepted, refused, ask}
+use Rattle.questions.specs.Refusals.{number_of}
+use Rattle.questions.specs.declared.Refusal.{Refusal}
 use Rattle.llc_pdus.specs.Headers.{header}
 use Rattle.llc_pdus.specs.declared.headers.HeaderEnd.{HeaderEnd}
 use Rattle.llc_pdus.specs.declared.Pdu.{Pdu}
@@ -18,17 +21,10 @@ holding f first n = cond (ltb 0 n) (take ((first + n + 7) / 8 - first / 8) (drop
 abbrev pub handed : List ℕ → Sdu → Outcome (List ℕ)
 handed f s = ask 5 (leb (s.first + s.len) (8 * length f)) (accepted (holding f s.first s.len))
 
--- A number and a part as the code hands them back: 0 and the bytes, or the number of the question failed and no bytes.
-pub record Part : Type 0 where
-  pub number : ℕ
-  pub bytes : List ℕ
-
-abbrev pub numbered : ℕ → List ℕ → Part
-numbered n b = record { number = n; bytes = b }
-
-abbrev pub handed_back : Outcome (List ℕ) → Part
-handed_back (accepted b) = numbered 0 b
-handed_back (refused n) = numbered n []
+-- What the code hands back: the bytes, or the number of the question failed.
+abbrev pub handed_back : Result (Bor (List ℕ)) Refusal → Outcome (List ℕ)
+handed_back (Ok b) = accepted b.now
+handed_back (Err r) = refused (number_of r)
 
 -- Where a header ends: the byte that holds its last bit, and how many bits of that byte are the header's.
 abbrev pub header_end : Pdu → HeaderEnd

@@ -1,11 +1,10 @@
 -- The sixteen LLC PDU types, by the four bits that a PDU begins with.
 use Rattle.std.specs.Prelude.{ℕ, true, false, List, [], ◌∷◌, ltb, get_or}
-use Rattle.questions.specs.Outcome.{Outcome, accepted, refused, ask}
+use Rattle.questions.specs.Outcome.{Outcome, accepted, ask}
 use Rattle.llc_pdus.specs.declared.Pdu.{Pdu}
 use Rattle.llc_pdus.specs.declared.Pdu.TheVariants as Pdus
 use Rattle.llc_pdus.specs.declared.llc_pdu_type.LlcPduType.{LlcPduType}
 use Rattle.llc_pdus.specs.declared.llc_pdu_type.LlcPduType.TheVariants.{BlAdata, BlData, BlUdata, BlAck, BlAdataFcs, BlDataFcs, BlUdataFcs, BlAckFcs, AlSetup, AlDataAlFinal, AlAlUdataAlUfinal, AlAckAlRnr, AlReconnect, SuppLlcPdu, L2SigPdu, AlDisc}
-use Rattle.llc_pdus.specs.declared.llc_pdu_type.TypeOf.{TypeOf}
 
 -- The number that the four bits of a type spell.
 abbrev pub raw : LlcPduType → ℕ
@@ -35,11 +34,6 @@ types =
 -- The type with a number: question 5 asks whether it fits into four bits. (Question 10 is put to a type, once there is one.)
 abbrev pub from_raw : ℕ → Outcome LlcPduType
 from_raw n = ask 5 (ltb n 16) (accepted (get_or types n AlDisc))
-
--- What a `TypeOf` says: the type, or number 5.
-abbrev pub typed : TypeOf → Outcome LlcPduType
-typed (TypeOf.Type t) = accepted t
-typed TypeOf.Unknown = refused 5
 
 -- The four bits that a PDU of a type begins with: those of the basic link "0, FCS flag, two type bits", then, behind a 1, those
 -- of the others in the order in which llc_pdu_type.rs numbers them.

@@ -3,15 +3,16 @@
 
 mod headers;
 mod llc_pdu_type;
+mod names;
 mod reading;
 mod writing;
 
-pub use llc_pdu_type::{LlcPduType, TypeOf};
+pub use llc_pdu_type::LlcPduType;
 pub use reading::{from_bitbuf, sdu_bytes};
 pub use writing::{N251_BL_MAX_TLSDU_LEN_BITS, to_bitbuf};
 
 /// A basic link PDU without its SDU.
-#[derive(Clone, Copy)]
+#[derive(Clone, Copy, Debug, PartialEq, Eq)]
 pub enum Pdu {
     /// Clause 21.2.2.2: data, with an acknowledgement.
     BlAdata { has_fcs: bool, nr: bool, ns: bool },
@@ -24,7 +25,7 @@ pub enum Pdu {
 }
 
 /// Where an SDU lies in a frame.
-#[derive(Clone, Copy)]
+#[derive(Clone, Copy, Debug, PartialEq, Eq)]
 pub struct Sdu {
     /// Its first bit's place in the frame.
     pub first: usize,
@@ -32,24 +33,4 @@ pub struct Sdu {
     pub len: usize,
     /// Its first bit's place in the bytes that hold it; 0 if it is empty.
     pub place: usize,
-}
-
-/// What reading a frame gives.
-#[derive(Clone, Copy)]
-pub enum Read {
-    /// A PDU, and where its SDU lies.
-    Frame(Pdu, Sdu),
-    /// The number of the first question failed: 9 to 12, or 5 if the frame has fewer bits than it is said to have.
-    Refused(u8),
-}
-
-/// What writing a frame gives.
-#[derive(Clone, Copy)]
-pub enum Written {
-    /// The frame's length in bits.
-    Bits(usize),
-    /// The SDU has more bits than an outgoing one may have, or does not lie in its bytes (number 5).
-    OutOfRange,
-    /// The frame does not fit into the lent bytes (number 8).
-    NoRoom,
 }

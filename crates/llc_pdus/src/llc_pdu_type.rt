@@ -1,9 +1,12 @@
 // LLC PDU types (clause 21.2.1), from llc_pdu_type.rs.
 ghost use Rattle.std.specs.Prelude.{◌≡◌};
-ghost use Rattle.llc_pdus.specs.Types.{raw, from_raw, typed};
+ghost use Rattle.questions.specs.Refusals.{outcome};
+ghost use Rattle.llc_pdus.specs.Types.{raw, from_raw};
+
+use questions::Refusal;
 
 /// The type of an LLC PDU, four bits.
-#[derive(Clone, Copy)]
+#[derive(Clone, Copy, Debug, PartialEq, Eq)]
 pub enum LlcPduType {
     BlAdata,
     BlData,
@@ -23,46 +26,41 @@ pub enum LlcPduType {
     AlDisc,
 }
 
-/// The type with a number, if there is one.
-#[derive(Clone, Copy)]
-pub enum TypeOf {
-    /// The type.
-    Type(LlcPduType),
-    /// No number of four bits (number 5).
-    Unknown,
-}
+// The type with a number, or question 5: it is below 16.
+impl TryFrom<u64> for LlcPduType {
+    type Error = Refusal;
 
-impl LlcPduType {
-    /// The type with a number, which is below 16.
-    pub fn try_from(x: u64) -> TypeOf
-        ensures { typed result ≡ from_raw x }
-    {
+    ghost try_from_gives = { λ x t. outcome t ≡ from_raw x };
+
+    fn try_from(x: u64) -> Result<LlcPduType, Refusal> {
         match x {
-            0 => TypeOf::Type(LlcPduType::BlAdata),
-            1 => TypeOf::Type(LlcPduType::BlData),
-            2 => TypeOf::Type(LlcPduType::BlUdata),
-            3 => TypeOf::Type(LlcPduType::BlAck),
-            4 => TypeOf::Type(LlcPduType::BlAdataFcs),
-            5 => TypeOf::Type(LlcPduType::BlDataFcs),
-            6 => TypeOf::Type(LlcPduType::BlUdataFcs),
-            7 => TypeOf::Type(LlcPduType::BlAckFcs),
-            8 => TypeOf::Type(LlcPduType::AlSetup),
-            9 => TypeOf::Type(LlcPduType::AlDataAlFinal),
-            10 => TypeOf::Type(LlcPduType::AlAlUdataAlUfinal),
-            11 => TypeOf::Type(LlcPduType::AlAckAlRnr),
-            12 => TypeOf::Type(LlcPduType::AlReconnect),
-            13 => TypeOf::Type(LlcPduType::SuppLlcPdu),
-            14 => TypeOf::Type(LlcPduType::L2SigPdu),
-            15 => TypeOf::Type(LlcPduType::AlDisc),
-            _ => TypeOf::Unknown,
+            0 => Ok(LlcPduType::BlAdata),
+            1 => Ok(LlcPduType::BlData),
+            2 => Ok(LlcPduType::BlUdata),
+            3 => Ok(LlcPduType::BlAck),
+            4 => Ok(LlcPduType::BlAdataFcs),
+            5 => Ok(LlcPduType::BlDataFcs),
+            6 => Ok(LlcPduType::BlUdataFcs),
+            7 => Ok(LlcPduType::BlAckFcs),
+            8 => Ok(LlcPduType::AlSetup),
+            9 => Ok(LlcPduType::AlDataAlFinal),
+            10 => Ok(LlcPduType::AlAlUdataAlUfinal),
+            11 => Ok(LlcPduType::AlAckAlRnr),
+            12 => Ok(LlcPduType::AlReconnect),
+            13 => Ok(LlcPduType::SuppLlcPdu),
+            14 => Ok(LlcPduType::L2SigPdu),
+            15 => Ok(LlcPduType::AlDisc),
+            _ => Err(Refusal::OutOfRange),
         }
     }
+}
 
-    /// The number of the type.
-    pub fn into_raw(self) -> u64
-        ensures { result ≡ raw self }
-    {
-        match self {
+// The number of a type.
+impl From<LlcPduType> for u64 {
+    ghost from_gives = { λ t x. x ≡ raw t };
+
+    fn from(t: LlcPduType) -> u64 {
+        match t {
             LlcPduType::BlAdata => 0,
             LlcPduType::BlData => 1,
             LlcPduType::BlUdata => 2,

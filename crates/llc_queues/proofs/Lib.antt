@@ -1,3 +1,4 @@
 pub mod Marking
 pub mod Arrays
 pub mod Shifting
+pub mod Found

@@ -1,117 +1,85 @@
--- Loops that mark the places of the store that messages have, and the first place that is not marked.
+-- The flags of the places of the store that messages have, and the first place whose flag is not set.
 use Prim.Native.Nat.{ℕ, suc, ◌+◌, ◌≤◌, ◌<◌}
 use native.Mathlib.Nat.{zero-add}
 use native.Mathlib.Omega.{arith}
 use mathlib.Core.Path.{◌≡◌, ◌∙◌, refl, sym, ap}
 use mathlib.Core.Bool.{Bool, true, false, cond, not, ◌||◌, or-false, or-true}
-use mathlib.Core.List.{List, [], ◌∷◌, ◌++◌, map, append_assoc, append-nil, map-append}
-use borrow.Author.Tests.{eqb-true, eqb-false, eq-eqb, ne_eqb, lt-ltb, le-ltb}
+use mathlib.Core.List.{List, [], ◌∷◌, ◌++◌, map-append}
+use borrow.Author.Tests.{eqb-true, eqb-false, eq-eqb, ne_eqb}
 use lib.Dec.{eqb}
-use lib.ListN.{length, get_or, take, set, replicate, length-set, length-replicate, get_or-replicate}
+use lib.ListN.{length, get_or, take, set, replicate, get_or-replicate}
 use lib.Seq.{take-suc, take_all}
+use Rattle.std.specs.Prelude.{unwrap_or}
+use Rattle.std.specs.Prelude as Prelude
 use Rattle.lists.specs.Lists.{any, among}
 use Rattle.lists.specs.Arrays.{position}
-use Rattle.lists.proofs.Lists.{any_append, get_d_set}
-use Rattle.lists.proofs.Arrays.{position-any}
+use Rattle.lists.proofs.Lists.{any_append, get_or_set}
+use Rattle.lists.proofs.Std.{position-choice}
 use Rattle.lists.proofs.Choices.{by-test}
 use Rattle.llc_rule.specs.Limits.{store_places}
 use Rattle.llc_state.specs.declared.Entry.{Entry}
-use Rattle.llc_steps.specs.Places.{first_free}
+use Rattle.llc_state.specs.declared.State.{State}
+use Rattle.llc_steps.specs.States.{messages_of, udata_of}
+use Rattle.llc_steps.specs.Places.{first_free, free_place, used_places}
+use Rattle.llc_queues.specs.Queues.{places_of, Marks}
 
--- The places that are in a list are marked, of those of the store.
-pub record Marked (us : List ℕ) (used : List Bool) : Type 0 where
-  pub size : length used ≡ store_places
-  pub marks : (q : ℕ) → q < store_places → get_or used q false ≡ among q us
+among-append : (q : ℕ) (us vs : List ℕ) → among q (us ++ vs) ≡ among q us || among q vs
+among-append q us vs = any_append (λ (k : ℕ). eqb k q) us vs
 
-pub unmarked : Marked [] (replicate store_places false)
-unfolding any
-unmarked = record { size = length-replicate store_places false; marks = λ q h. get_or-replicate store_places q false false h }
-
--- A place more in the list: it is marked where it is one of the store's.
 among-more : (q x : ℕ) (us : List ℕ) → among q (us ++ (x ∷ [])) ≡ among q us || eqb x q
 unfolding any
-among-more q x us = any_append (λ (k : ℕ). eqb k q) us (x ∷ []) ∙ ap (λ (b : Bool). among q us || b) (or-false (eqb x q))
+among-more q x us = among-append q us (x ∷ []) ∙ ap (λ (b : Bool). among q us || b) (or-false (eqb x q))
 
-marked-in : {us : List ℕ} {used : List Bool} → Marked us used → (x : ℕ) → x < store_places → Marked (us ++ (x ∷ [])) (set used x true)
-marked-in {us} {used} m x h =
-    record {
-      size = length-set used x true ∙ m.size;
-      marks =
-          λ q below.
-          get_d_set used x q true false (omega (arith, m.size, h))
-          ∙ by-test (eqb q x)
-          (λ e. rw (e, among-more, eq-eqb x q (sym (eqb-true q x e))) (sym (or-true (among q us))))
-          (λ e.
-          rw (e, among-more, ne_eqb x q (λ d. eqb-false q x e (sym d))) (m.marks q below ∙ sym (or-false (among q us))));
-    }
-
-marked-out : {us : List ℕ} {used : List Bool} → Marked us used → (x : ℕ) → store_places ≤ x → Marked (us ++ (x ∷ [])) used
-marked-out {us} m x h =
-    record {
-      size = m.size;
-      marks =
-          λ q below.
-          m.marks q below
-          ∙ sym (or-false (among q us))
-          ∙ rw (among-more, ne_eqb x q (λ d. omega (arith, d, h, below)));
-    }
-
--- The places that messages have.
-abbrev pub places_of : List Entry → List ℕ
-places_of es = map (λ (e : Entry). e.frame.place) es
-
--- Before turn i over the first n of k messages, us are marked and the places of those before i.
-pub record Marking (us : List ℕ) (k n : ℕ) (es : List Entry) (used : List Bool) (i : ℕ) : Type 0 where
-  pub low : i ≤ n
-  pub high : n ≤ k
-  pub long : length es ≡ k
-  pub done : Marked (us ++ places_of (take i es)) used
-
-pub starts :
-    {us : List ℕ} {used : List Bool} {k n : ℕ} {es : List Entry}
-    → Marked us used
-    → n ≤ k
-    → length es ≡ k
-    → Marking us k n es used 0
-starts m h e = record { low = omega arith; high = h; long = e; done = rw append-nil m }
+-- Before the first message no flag more is set.
+pub marks-none : (old : List Bool) → Marks old [] old
+unfolding any
+marks-none old q h = sym (or-false (get_or old q false))
 
 places-more :
-    (us : List ℕ) (es : List Entry) (i : ℕ) (d : Entry)
+    (es : List Entry) (i : ℕ) (d : Entry)
     → i < length es
-    → us ++ places_of (take (suc i) es) ≡ (us ++ places_of (take i es)) ++ ((get_or es i d).frame.place ∷ [])
-places-more us es i d h = rw (take-suc es i d h, map-append, append_assoc)
+    → places_of (take (suc i) es) ≡ places_of (take i es) ++ ((get_or es i d).frame.place ∷ [])
+places-more es i d h = rw (take-suc es i d h, map-append)
 
-module _ {us : List ℕ} {k n : ℕ} {es : List Entry} {used : List Bool} {i : ℕ} (m : Marking us k n es used i) where
-  -- A turn over a message whose place is one of the store's, and one over another.
-  turn :
-      (d : Entry) (after : List Bool)
-      → i < n
-      → Marked ((us ++ places_of (take i es)) ++ ((get_or es i d).frame.place ∷ [])) after
-      → Marking us k n es after (i + 1)
-  turn d after h more =
-      let one : i + 1 ≡ suc i = omega arith in
-      record {
-        low = omega (arith, h);
-        high = m.high;
-        long = m.long;
-        done = rw (one, places-more us es i d (omega (arith, h, m.high, m.long))) more;
-      }
-
+-- A message whose place is one of the store's, and one whose place is not.
+module _ (old used : List Bool) (es : List Entry) (i : ℕ) (d : Entry) (h : i < length es) (m : Marks old (places_of (take i es)) used) where
   pub marks-it :
-      (d : Entry) {after : List Bool}
-      → i < n
+      {after : List Bool}
+      → length used ≡ store_places
       → (get_or es i d).frame.place < store_places
       → after ≡ set used (get_or es i d).frame.place true
-      → Marking us k n es after (i + 1)
-  marks-it d {after} h inside e = turn d after h (rw e (marked-in m.done (get_or es i d).frame.place inside))
+      → Marks old (places_of (take (i + 1) es)) after
+  marks-it long inside is q below =
+      let x = (get_or es i d).frame.place in
+      let us = places_of (take i es) in
+      let one : i + 1 ≡ suc i = omega arith in
+      rw (is, one, places-more es i d h, among-more q x us)
+      (get_or_set used x q true false (omega (arith, long, inside))
+      ∙ by-test (eqb q x)
+      (λ e.
+      rw (e, eq-eqb x q (sym (eqb-true q x e)), or-true (among q us)) (sym (or-true (get_or old q false))))
+      (λ e.
+      rw (e, ne_eqb x q (λ k. eqb-false q x e (sym k)), or-false (among q us)) (m q below)))
 
-  pub passes-it :
-      (d : Entry) {after : List Bool} → i < n → store_places ≤ (get_or es i d).frame.place → after ≡ used → Marking us k n es after (i + 1)
-  passes-it d {after} h beyond e = turn d after h (rw e (marked-out m.done (get_or es i d).frame.place beyond))
+  pub marks-not :
+      {after : List Bool}
+      → store_places ≤ (get_or es i d).frame.place
+      → after ≡ used
+      → Marks old (places_of (take (i + 1) es)) after
+  marks-not beyond is q below =
+      let x = (get_or es i d).frame.place in
+      let us = places_of (take i es) in
+      let one : i + 1 ≡ suc i = omega arith in
+      rw (is, one, places-more es i d h, among-more q x us, ne_eqb x q (λ e. omega (arith, e, beyond, below)), or-false (among q us))
+      (m q below)
 
-  -- No turn is left.
-  pub all-marked : n ≤ i → Marked (us ++ places_of (take n es)) used
-  all-marked h = let e : n ≡ i = omega (arith, h, m.low) in rw e m.done
+-- After the last one.
+pub marks-all :
+    (old used : List Bool) (es : List Entry) (i : ℕ)
+    → length es ≤ i
+    → Marks old (places_of (take i es)) used
+    → Marks old (places_of es) used
+marks-all old used es i h m = rw (take_all i es h) at m
 
 -- What the flags behind the first one say.
 later :
@@ -141,26 +109,31 @@ first-unset (false ∷ bs) p us h =
     let here : among p us ≡ false = sym (h 0 (omega arith) ∙ ap (λ (k : ℕ). among k us) start) in
     rw here (sym start)
 
--- So it is where the search for such a flag ends; none is free where it finds none.
-module _ {us : List ℕ} {used : List Bool} {p : ℕ} (m : Marked us used) (e : p ≡ position not (take store_places used)) where
-  at_first : p ≡ position not used
-  at_first = e ∙ ap (position not) (take_all store_places used (omega (arith, m.size)))
-
-  chosen : first_free store_places 0 us ≡ cond (any not used) (position not used) 0
-  chosen =
-      ap (λ (n : ℕ). first_free n 0 us) (sym m.size)
-      ∙ first-unset used 0 us
-      (λ q below. m.marks q (omega (arith, below, m.size)) ∙ ap (λ (k : ℕ). among k us) (sym (zero-add q)))
-      ∙ ap (λ (k : ℕ). cond (any not used) k 0) (zero-add (position not used))
-
-  pub first-free : p < store_places → p ≡ first_free store_places 0 us
-  first-free h =
-      let some : any not used ≡ true =
-      position-any not used ∙ lt-ltb (position not used) (length used) (omega (arith, h, at_first, m.size)) in
-      at_first ∙ sym (chosen ∙ rw some)
-
-  pub none_free : store_places ≤ p → 0 ≡ first_free store_places 0 us
-  none_free h =
-      let none : any not used ≡ false =
-      position-any not used ∙ le-ltb (position not used) (length used) (omega (arith, h, at_first, m.size)) in
-      sym (chosen ∙ rw none)
+-- The first flag that is not set, of those that the messages of both queues set, is that of the first free place.
+pub first-free :
+    (s : State) (one two : List Bool)
+    → length two ≡ store_places
+    → Marks (replicate store_places false) (places_of (messages_of s)) one
+    → Marks one (places_of (udata_of s)) two
+    → unwrap_or (Prelude.position not two) 0 ≡ free_place s
+unfolding free_place used_places
+first-free s one two long m n =
+    let us = places_of (messages_of s) in
+    let vs = places_of (udata_of s) in
+    let marked : (q : ℕ) → q < length two → get_or two q false ≡ among (0 + q) (us ++ vs) =
+    λ q below.
+    let h : q < store_places = omega (arith, below, long) in
+    n q h
+    ∙ ap (λ (b : Bool). b || among q vs) (m q h ∙ ap (λ (b : Bool). b || among q us) (get_or-replicate store_places q false false h))
+    ∙ sym (among-append q us vs)
+    ∙ ap (λ (k : ℕ). among k (us ++ vs)) (sym (zero-add q)) in
+    ap (λ (o : Prelude.Option ℕ). unwrap_or o 0) (position-choice not two)
+    ∙ chosen (any not two) (position not two)
+    ∙ sym
+    (ap (λ (k : ℕ). first_free k 0 (us ++ vs)) (sym long)
+    ∙ first-unset two 0 (us ++ vs) marked
+    ∙ ap (λ (k : ℕ). cond (any not two) k 0) (zero-add (position not two)))
+  where
+    chosen : (b : Bool) (k : ℕ) → unwrap_or (cond b (Prelude.Some k) Prelude.None) 0 ≡ cond b k 0
+    chosen true k = refl
+    chosen false k = refl

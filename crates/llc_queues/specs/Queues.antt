@@ -1,5 +1,7 @@
--- The tests by which the Rust searches its queues.
-use Rattle.std.specs.Prelude.{ℕ, Bool, not, ◌&&◌, eqb}
+-- The tests by which the Rust searches its queues, and the flags of the places in use.
+use Rattle.std.specs.Prelude.{ℕ, ◌<◌, ◌≡◌, Bool, false, not, ◌&&◌, ◌||◌, List, map, get_or, eqb}
+use Rattle.lists.specs.Lists.{among}
+use Rattle.llc_rule.specs.Limits.{store_places}
 use Rattle.llc_state.specs.declared.Entry.{Entry}
 use Rattle.llc_state.specs.declared.ScheduledOutAck.{ScheduledOutAck}
 
@@ -15,3 +17,10 @@ with_receipt i e = eqb e.sent.receipt i
 
 abbrev pub waits_with : ℕ → Entry → Bool
 waits_with i e = eqb e.sent.receipt i && not e.progress.submitted_to_umac
+
+-- The places of the store that messages have; the flags of the places in a list set, and the others as they were.
+abbrev pub places_of : List Entry → List ℕ
+places_of es = map (λ (e : Entry). e.frame.place) es
+
+abbrev pub Marks : List Bool → List ℕ → List Bool → Type 0
+Marks old us new = (q : ℕ) → q < store_places → get_or new q false ≡ get_or old q false || among q us

@@ -1,50 +1,45 @@
 // What becomes of a message that was handed down, by its receipt; and a receipt given back.
 ghost use Rattle.std.specs.Prelude.{ℕ, ◌<◌, ◌≡◌, true, List};
 ghost use Rattle.llc_state.specs.Ranges.{state_in_range};
-ghost use Rattle.llc_steps.specs.Answers.{WithAny};
+ghost use Rattle.llc_steps.specs.Answers.{WithAny, answered, done};
 ghost use Rattle.llc_steps.specs.Calls.{on_report, on_release};
 
 use llc_queues::{holds, waits};
 use llc_state::State;
-use llc_steps::Answer;
+use questions::Refusal;
+use tx_receipt::{Mark, TxState};
 
 /// A report: 1 transmitted, 2 discarded.
-pub fn rx_tma_report_ind(mut state: State, receipt: u8, how: u8) -> Answer
-    requires state_value { state_in_range state ≡ true }
+pub fn rx_tma_report_ind(state: &mut State, receipt: u8, how: u8) -> Result<(), Refusal>
+    requires state_value { state_in_range state.old ≡ true }
     requires receipt_bound { receipt < 128 }
-    ensures { WithAny result state (λ (store : List ℕ). on_report receipt how state store) }
+    ensures { WithAny (answered state.new (done result)) state.old (λ (store : List ℕ). on_report receipt how state.old store) }
 {
     let i = receipt as usize;
-    let place = state.receipts[i];
-    let tx = place.receipt();
-    if !(place.taken & (tx.get_state().raw() == 0)) {
-        return Answer::refused(15, state);
+    let tx = state.receipts[i].receipt().ok_or(Refusal::NotPending)?;
+    if tx.get_state() != TxState::Pending || waits(state, receipt) {
+        return Err(Refusal::NotPending);
     }
-    if waits(state, receipt) {
-        return Answer::refused(15, state);
-    }
-    if how == 1 {
-        state.receipts[i] = place.transmitted();
-        return Answer::accepted(state, 0);
-    }
-    state.receipts[i] = place.discarded();
-    Answer::accepted(state, 0)
+    let mark = if how == 1 {
+        Mark::Transmitted
+    } else {
+        Mark::Discarded
+    };
+    state.mark_receipt(i, mark);
+    Ok(())
 }
 
 /// A release: a receipt that is final, and whose message is no longer held, is free again.
-pub fn release(state: State, receipt: u8) -> Answer
-    requires state_value { state_in_range state ≡ true }
+pub fn release(state: &mut State, receipt: u8) -> Result<(), Refusal>
+    requires state_value { state_in_range state.old ≡ true }
     requires receipt_bound { receipt < 128 }
-    ensures { WithAny result state (λ (store : List ℕ). on_release receipt state store) }
+    ensures { WithAny (answered state.new (done result)) state.old (λ (store : List ℕ). on_release receipt state.old store) }
 {
     let i = receipt as usize;
-    let place = state.receipts[i];
-    let tx = place.receipt();
-    if !(place.taken & tx.is_in_final_state()) {
-        return Answer::refused(16, state);
+    let tx = state.receipts[i].receipt().ok_or(Refusal::NotFinal)?;
+    if !tx.is_in_final_state() || holds(state, receipt) {
+        return Err(Refusal::NotFinal);
     }
-    if holds(state, receipt) {
-        return Answer::refused(16, state);
-    }
-    Answer::accepted(state.free_receipt(i), 0)
+    state.free_receipt(i);
+    Ok(())
 }

@@ -1,66 +1,62 @@
--- Numbers, blocks and packed bits as the code writes them, and the fields put together.
+-- Numbers, bytes and packed bits as the code writes them, and the fields put together.
 use Prim.Native.Nat.{ℕ, zero, suc, ◌+◌, ◌-◌, ◌*◌, ◌/◌, ◌%◌, ◌^◌, ◌≤◌, ◌<◌}
-use native.Mathlib.Nat.{pow-succ', zero-add, suc-add, mod-eq_of_lt, zero-mul}
+use native.Mathlib.Nat.{zero-add, suc-add, mod-eq_of_lt, zero-mul, div-one}
 use native.Mathlib.Omega.{arith}
 use mathlib.Core.Path.{◌≡◌, ◌∙◌, refl, sym, ap, ap₂}
 use mathlib.Core.Bool.{Bool, true, false}
 use mathlib.Core.List.{List, [], ◌∷◌, ◌++◌, append_assoc}
 use lib.ListN.{length, take, drop, get_or, replicate, length-append, length-drop, length-replicate, replicate-append-replicate}
-use lib.Pow.{pow-add, shl_exact, shl_lt}
-use lib.Seq.{drop-cons, drop-drop, drop_at, take_at, take-append-le, drop-append-le, length-take-le, get_or-drop}
+use lib.Pow.{shl_exact, shl_lt}
+use lib.Seq.{drop-drop, drop_at, take_at, take-append-le, drop-append-le, length-take-le, get_or-drop}
+use borrow.Rule.Slice.PartMut.{put_mid}
+use Rattle.std.proofs.lemmas.List.{take-append-drop}
+use Rattle.std.specs.Int.{w32, to_be_bytes}
 use Rattle.lists.specs.Writes.{Wrote}
 use Rattle.lists.proofs.Writes.{write-is}
-use Rattle.bits.specs.Bits.{to_bits, value, bits, part, splice, AllBits}
-use Rattle.bits.proofs.Laws.{length-to_bits, value-to_bits, length-bits, length_part, part-append, value-append, take-bits, drop_bits, value-below}
+use Rattle.bits.specs.Bits.{to_bits, value, bits, splice, AllBits}
+use Rattle.bits.specs.Parts.{bits_of}
+use Rattle.bits.specs.declared.parts.Part.{Part}
+use Rattle.bits.proofs.Laws.{length-to_bits, value-to_bits, length-bits, length_part, value-append, take-bits, drop_bits, value-below}
 use Rattle.llc_pdus.specs.declared.Pdu.TheVariants.{BlAck}
-use Rattle.llc_pdus.specs.Headers.{bit, header}
+use Rattle.llc_pdus.specs.Headers.{header}
 use Rattle.llc_rule.specs.Calls.{to_bytes}
-use Rattle.llc_rule.specs.Records.{field, number_field, packed, pack, counted, counted_if_any, masked}
+use Rattle.llc_rule.specs.Records.{number_field, packed, pack, counted, counted_if_any}
 use Rattle.llc_rule.proofs.Records.{length-to_bytes, length-packed}
-use Rattle.llc_records.specs.Records.{mask_if}
 
 -- Numbers -----------------------------------------------------------------------------------------------------------------
 
-pow-bytes : (n : ℕ) → 256 ^ n ≡ 2 ^ (8 * n)
-pow-bytes zero = refl
-pow-bytes (suc n) =
-    let more : 8 * suc n ≡ 8 + 8 * n = omega arith in
-    pow-succ' 256 n ∙ ap (λ (k : ℕ). 256 * k) (pow-bytes n) ∙ sym (ap (λ (k : ℕ). 2 ^ k) more ∙ pow-add 2 8 (8 * n))
-
--- The first of n + 1 bytes of a number, and the others.
-pub bytes_next : (n v : ℕ) → to_bytes (suc n) v ≡ v / 2 ^ (8 * n) % 256 ∷ to_bytes n v
+-- The lowest bytes of a number, out of all four.
+pub lowest : (n v : ℕ) → n ≤ 4 → take (4 - (4 - n)) (drop (4 - n) (to_be_bytes w32 v)) ≡ to_bytes n v
 unfolding to_bytes
-bytes_next n v = ap (λ (k : ℕ). v / k % 256 ∷ to_bytes n v) (pow-bytes n)
-
-pub bytes-none : (v : ℕ) → to_bytes 0 v ≡ []
-unfolding to_bytes
-bytes-none v = refl
+lowest zero v h = refl
+lowest (suc zero) v h = rw (div-one v)
+lowest (suc (suc zero)) v h = rw (div-one v)
+lowest (suc (suc (suc zero))) v h = rw (div-one v)
+lowest (suc (suc (suc (suc zero)))) v h = rw (div-one v)
+lowest (suc (suc (suc (suc (suc n))))) v h = absurd (omega arith)
 
 -- A number's field is its tag, its length and its bytes.
-pub number_is : (tag n v : ℕ) → (tag ∷ []) ++ (to_bytes 2 n ++ to_bytes n v) ≡ number_field tag n v
+pub number_is : (tag n v : ℕ) → (tag ∷ to_bytes 2 n) ++ to_bytes n v ≡ number_field tag n v
 number_is tag n v = ap (λ (k : ℕ). tag ∷ to_bytes 2 k ++ to_bytes n v) (sym (length-to_bytes n v))
 
--- Blocks ------------------------------------------------------------------------------------------------------------------
+-- Bytes ---------------------------------------------------------------------------------------------------------------------
 
--- The first of n + 1 elements from a place on, and the others.
-pub part-next : (l : List ℕ) (at n : ℕ) → at < length l → part l at (suc n) ≡ get_or l at 0 ∷ part l (at + 1) n
-part-next l at n h =
-    let e : suc at ≡ at + 1 = omega arith in
-    rw (drop-cons l at 0 h, e)
+-- Bytes that were copied over a part.
+pub copied :
+    (l bytes m : List ℕ) (i : ℕ)
+    → i + length bytes ≤ length l
+    → m ≡ bytes
+    → Wrote l i bytes (put_mid i (i + length bytes - i) l m) (i + length bytes)
+copied l bytes m i h e =
+    let n : i + length bytes - i ≡ length bytes = omega arith in
+    record {
+      next = refl;
+      holds = rw (e, n, drop-drop (length bytes) i l) (sym (write-is l i bytes h));
+    }
 
-pub part-all : (l : List ℕ) (at n : ℕ) → part l (at + 0) (n - 0) ≡ part l at n
-part-all l at n =
-    let a : at + 0 ≡ at = omega arith in
-    let b : n - 0 ≡ n = omega arith in
-    rw (a, b)
-
--- A field is its tag, its length and its value.
-pub field_is : (tag n : ℕ) (v : List ℕ) → length v ≡ n → (tag ∷ []) ++ (to_bytes 2 n ++ v) ≡ field tag v
-field_is tag n v e = ap (λ (k : ℕ). tag ∷ to_bytes 2 k ++ v) (sym e)
-
--- As many bits from a place on as there are.
-pub bits-long : (l : List ℕ) (at n : ℕ) → at + n ≤ 8 * length l → length (part (bits l) at n) ≡ n
-bits-long l at n h = length_part (bits l) at n (rw (length-bits l) h)
+-- As many bits as a part has.
+pub bits-long : (p : Part) → length (bits_of p) ≡ p.len
+bits-long p = length_part (bits p.bytes.now) p.place p.len (omega (arith, length-bits p.bytes.now, p.inside))
 
 -- Packed bits -------------------------------------------------------------------------------------------------------------
 
@@ -90,16 +86,23 @@ pack-append n x y h =
     let size : (length (x ++ y) + 7) / 8 ≡ n + (length y + 7) / 8 = omega arith in
     ap₂ packed size (append_assoc x y z) ∙ packed-append n ((length y + 7) / 8) x (y ++ z) h
 
--- The whole bytes of a part, and its other bits.
-pub pack-part :
-    (l : List ℕ) (at n : ℕ)
-    → at + n ≤ length l
-    → packed (n / 8) (part l at (8 * (n / 8))) ++ pack (part l (at + 8 * (n / 8)) (n % 8)) ≡ pack (part l at n)
-pack-part l at n h =
-    let q : ℕ = n / 8 in
-    let cut : 8 * q + n % 8 ≡ n = omega arith in
-    sym (pack-append q (part l at (8 * q)) (part l (at + 8 * q) (n % 8)) (length_part l at (8 * q) (omega arith)))
-    ∙ ap pack (sym (part-append l at (8 * q) (n % 8)) ∙ ap (part l at) cut)
+-- Bits that fill n bytes.
+pub pack-whole : (n : ℕ) (x : List ℕ) → length x ≡ 8 * n → packed n x ≡ pack x
+pack-whole n x h =
+    let size : (length x + 7) / 8 ≡ n = omega arith in
+    rw size (sym (packed-front n x (replicate 7 0) (omega arith)))
+
+-- Bits in two parts, the first of whole bytes.
+pub pack-parts :
+    (n : ℕ) (x : List ℕ)
+    → n ≤ length x
+    → n % 8 ≡ 0
+    → pack (take n x) ++ pack (drop n x) ≡ pack x
+pack-parts n x h whole =
+    let long : length (take n x) ≡ 8 * (n / 8) = length-take-le n x h ∙ omega arith in
+    ap (λ (t : List ℕ). t ++ pack (drop n x)) (sym (pack-whole (n / 8) (take n x) long))
+    ∙ sym (pack-append (n / 8) (take n x) (drop n x) long)
+    ∙ ap pack (take-append-drop n x)
 
 -- Every element is a byte.
 abbrev pub Bytes : List ℕ → Type 0
@@ -175,9 +178,10 @@ value-zeros (suc n) =
     omega (arith, value-zeros n, zero-mul (2 ^ length z))
 
 -- No bits are no byte, and one to eight bits are one.
-pub pack-none : pack [] ≡ []
+pub pack-none : (x : List ℕ) → length x ≡ 0 → [] ≡ pack x
 unfolding packed
-pack-none = refl
+pack-none [] h = refl
+pack-none (b ∷ x) h = absurd (omega arith)
 
 -- The first bits of others with zeros behind them.
 take-zeros : (x : List ℕ) (n m : ℕ) → take (length x + n) (x ++ replicate (n + m) 0) ≡ x ++ replicate n 0
@@ -233,39 +237,22 @@ length-pack l = length-packed ((length l + 7) / 8) (l ++ replicate 7 0)
 pub counted_is :
     (l : List ℕ) (n : ℕ)
     → length l ≡ n
-    → (0x0C ∷ []) ++ (to_bytes 2 (2 + (n + 7) / 8) ++ (to_bytes 2 n ++ pack l)) ≡ counted l
+    → (0x0C ∷ to_bytes 2 (2 + (n + 7) / 8)) ++ (to_bytes 2 n ++ pack l) ≡ counted l
 unfolding counted
 counted_is l n e =
     let size : length (to_bytes 2 (length l) ++ pack l) ≡ 2 + (length l + 7) / 8 =
     rw (length-append (to_bytes 2 (length l)) (pack l), length-to_bytes 2 (length l), length-pack l) in
     rw (← e, ← size)
 
-pub any_none : (l : List ℕ) (at : ℕ) → [] ≡ counted_if_any (part l at 0)
+pub any_none : (l : List ℕ) → length l ≡ 0 → [] ≡ counted_if_any l
 unfolding counted_if_any
-any_none l at = refl
+any_none [] h = refl
+any_none (b ∷ l) h = absurd (omega arith)
 
 pub any_some : (l : List ℕ) → 0 < length l → counted l ≡ counted_if_any l
 unfolding counted_if_any
 any_some [] h = absurd (omega arith)
 any_some (b ∷ l) h = refl
-
-pub mask-there : (has : Bool) (m : ℕ) → has ≡ true → number_field 0x09 1 m ≡ masked (mask_if has m)
-unfolding masked
-mask-there true m h = refl
-mask-there false m h = cc
-
-pub mask-gone : (has : Bool) (m : ℕ) → has ≡ false → [] ≡ masked (mask_if has m)
-unfolding masked
-mask-gone true m h = cc
-mask-gone false m h = refl
-
-pub flag-set : (tag : ℕ) (b : Bool) → b ≡ true → number_field tag 1 1 ≡ number_field tag 1 (bit b)
-flag-set tag true h = refl
-flag-set tag false h = cc
-
-pub flag-clear : (tag : ℕ) (b : Bool) → b ≡ false → number_field tag 1 0 ≡ number_field tag 1 (bit b)
-flag-clear tag true h = cc
-flag-clear tag false h = refl
 
 -- The five bits of a BL-ACK as field 0C: one byte behind their count.
 pub ack-set : (nr : Bool) → nr ≡ true → number_field 0x0C 3 0x0538 ≡ counted (header (BlAck false nr))

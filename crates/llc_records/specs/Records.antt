@@ -1,21 +1,22 @@
--- What the structs of a record say, with the block and the bits that were lent beside them.
-use Rattle.std.specs.Prelude.{ℕ, Bool, true, false, List, ◌++◌}
-use Rattle.std.proofs.Math.Option.{Option, none, some}
+-- What the structs of a record say.
+use Rattle.std.specs.Prelude.{ℕ, Bool, false, List, ◌++◌}
+use Rattle.std.specs.Prelude as Code
+use Rattle.std.proofs.Math.Option.{Option}
+use Rattle.bits.specs.Parts.{bits_of}
 use Rattle.llc_pdus.specs.declared.Pdu.TheVariants.{BlAck}
-use Rattle.llc_pdus.specs.Headers.{bit, header}
+use Rattle.llc_pdus.specs.Headers.{bit, header, option_of}
 use Rattle.llc_rule.specs.Records.{Sent, Reply, Indication, field, number_field, masked, counted, counted_if_any}
 use Rattle.llc_records.specs.declared.SentRecord.{SentRecord}
 use Rattle.llc_records.specs.declared.ReplyRecord.{ReplyRecord}
 use Rattle.llc_records.specs.declared.IndicationRecord.{IndicationRecord}
 
 -- A mask, if there is one.
-abbrev pub mask_if : Bool → ℕ → Option ℕ
-mask_if false m = none
-mask_if true m = some m
+abbrev pub mask_of : Code.Option ℕ → Option ℕ
+mask_of m = option_of m
 
 -- A message, with its block and its PDU.
-abbrev pub sent : SentRecord → List ℕ → List ℕ → Sent
-sent s block pdu =
+abbrev pub sent : SentRecord → Sent
+sent s =
     record {
       ssi = s.ssi;
       type = s.ssi_type;
@@ -24,10 +25,10 @@ sent s block pdu =
       endpoint = s.endpoint;
       handle = s.handle;
       steal = s.steal;
-      mask = mask_if s.has_mask s.mask;
+      mask = mask_of s.mask;
       receipt = s.receipt;
-      block = block;
-      pdu = pdu;
+      block = s.block.now;
+      pdu = bits_of s.frame;
     }
 
 -- A reply: its PDU is a BL-ACK without FCS flag.
@@ -39,21 +40,21 @@ reply s =
       carrier = s.carrier;
       link = s.link;
       steal = s.steal;
-      mask = mask_if s.has_mask s.mask;
+      mask = mask_of s.mask;
       pdu = header (BlAck false s.nr);
     }
 
 -- What goes up of a frame, with its block and its SDU.
-abbrev pub indication : IndicationRecord → List ℕ → List ℕ → Indication
-indication s block sdu =
+abbrev pub indication : IndicationRecord → Indication
+indication s =
     record {
       ssi = s.ssi;
       type = s.ssi_type;
       link = s.link;
       endpoint = s.endpoint;
-      block = block;
+      block = s.block.now;
       fcs = s.has_fcs;
-      sdu = sdu;
+      sdu = bits_of s.sdu;
     }
 
 -- Fields that the code writes together: 01 to 03, 05 and 06, 04 to 07, 08 and 09, 0A to 0C, and 0B, 0D and 0C.

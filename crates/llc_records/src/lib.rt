@@ -4,11 +4,12 @@
 mod fields;
 mod records;
 
+use bits::Part;
 pub use records::{put_indication, put_reply, put_sent};
 
-/// A message as it is handed down, without its block and its PDU.
+/// A message as it is handed down.
 #[derive(Clone, Copy)]
-pub struct SentRecord {
+pub struct SentRecord<'a> {
     /// The address, of which three bytes are written.
     pub ssi: u32,
     /// 1 individual or 2 group.
@@ -23,17 +24,19 @@ pub struct SentRecord {
     pub handle: u32,
     /// Does it steal?
     pub steal: bool,
-    /// Is there a timeslot mask?
-    pub has_mask: bool,
-    /// The mask, if there is one.
-    pub mask: u8,
+    /// The timeslot mask, if there is one.
+    pub mask: Option<u8>,
     /// The receipt.
     pub receipt: u8,
+    /// The block.
+    pub block: &'a [u8],
+    /// The bits of the PDU.
+    pub frame: Part<'a>,
 }
 
-/// What a received frame sends up, without its block and its SDU.
+/// What a received frame sends up.
 #[derive(Clone, Copy)]
-pub struct IndicationRecord {
+pub struct IndicationRecord<'a> {
     /// The address, of which three bytes are written.
     pub ssi: u32,
     /// 1 individual or 2 group.
@@ -42,8 +45,12 @@ pub struct IndicationRecord {
     pub link: u32,
     /// The endpoint id.
     pub endpoint: u32,
+    /// The frame's block.
+    pub block: &'a [u8],
     /// The frame's FCS flag.
     pub has_fcs: bool,
+    /// The bits of the SDU.
+    pub sdu: Part<'a>,
 }
 
 /// An acknowledgement reply as it is handed down: its PDU is a BL-ACK without FCS flag.
@@ -59,10 +66,8 @@ pub struct ReplyRecord {
     pub link: u32,
     /// Does it steal?
     pub steal: bool,
-    /// Is there a timeslot mask?
-    pub has_mask: bool,
-    /// The mask, if there is one.
-    pub mask: u8,
+    /// The timeslot mask, if there is one.
+    pub mask: Option<u8>,
     /// The N(R) of the BL-ACK.
     pub nr: bool,
 }

@@ -1,58 +1,79 @@
 -- The questions of a request in the code's order: what is answered on each way.
 use Prim.Native.Nat.{ℕ, ◌≤◌, ◌<◌}
 use native.Mathlib.Omega.{arith}
-use mathlib.Core.Path.{◌≡◌, ◌∙◌, sym, ap}
-use mathlib.Core.Bool.{Bool, true, false}
+use mathlib.Core.Path.{◌≡◌, ◌∙◌, refl, sym, ap, subst}
+use mathlib.Core.Bool.{Bool, true, false, cond}
 use mathlib.Core.List.{List}
 use borrow.Author.Tests.{lt-ltb, le-ltb}
-use lib.Dec.{ltb}
-use lib.ListN.{get_or, length-take}
-use lib.Seq.{length-take-le, get_or-take}
-use Rattle.lists.specs.Lists.{Found}
-use Rattle.lists.specs.Arrays.{position, without}
-use Rattle.lists.proofs.Arrays.{found_at, found_none, without-none}
-use Rattle.questions.specs.Outcome.{Outcome, accepted, refused}
+use Rattle.std.specs.Prelude.{Option, None, MatchOption}
+use lib.ListN.{length}
+use Rattle.lists.specs.Lists.{Found, nothing, first, others}
+use Rattle.lists.specs.Arrays.{position}
+use Rattle.lists.proofs.Choices.{if-true, if-false}
+use Rattle.questions.specs.Outcome.{Outcome, accepted, refused, ask}
+use Rattle.questions.specs.Refusals.{number_of}
+use Rattle.questions.specs.declared.Refusal.{Refusal}
+use Rattle.questions.proofs.Asked.{accepted-passed}
+use Rattle.llc_pdus.specs.declared.Pdu.{Pdu}
 use Rattle.llc_pdus.specs.declared.Pdu.TheVariants.{BlUdata, BlAck}
 use Rattle.llc_rule.specs.Calls.{Request}
 use Rattle.llc_rule.specs.Ranges.{steals, wants_fcs}
 use Rattle.llc_rule.specs.Step.{on_acknowledged_path}
-use Rattle.llc_state.specs.Ranges.{state_in_range}
-use Rattle.llc_state.specs.States.{no_ack}
 use Rattle.llc_state.specs.Receipts.{place_of}
 use Rattle.llc_state.specs.declared.ScheduledOutAck.{ScheduledOutAck}
 use Rattle.llc_state.specs.declared.State.{State}
-use Rattle.llc_state.proofs.InRange.{range-tells}
-use Rattle.llc_state.specs.Lengths.{Lengths}
-use Rattle.llc_steps.specs.Answers.{effect, answer, delivered, WithAnyOut}
-use Rattle.llc_steps.specs.Calls.{carrier_for, ack_for, with_acknowledged, with_unacknowledged, with_stolen, row_for, on_data, on_unitdata, row_of}
-use Rattle.llc_steps.specs.States.{acks_of, rows_of, Kept}
+use Rattle.llc_steps.specs.Answers.{answer, delivered, WithAnyOut}
+use Rattle.llc_steps.specs.Calls.{ack_for, with_acknowledged, with_unacknowledged, with_stolen, row_for, on_data, on_unitdata, row_of}
+use Rattle.llc_steps.specs.States.{acks_of, rows_of, with_acks, Kept}
 use Rattle.llc_steps.specs.declared.Answer.{Answer}
-use Rattle.llc_steps.proofs.Rows.{row_by}
-use Rattle.llc_queues.specs.Queues.{ack_on}
+use Rattle.llc_steps.proofs.Updates.{same-acks}
+use Rattle.llc_requests.proofs.Puts.{put-then}
 
 -- An effect by the outcome's own name, and the effect of a no.
 pub as-asked :
-    {x : Answer} {after before : List ℕ} {s : State} {o p : Outcome Kept}
-    → o ≡ p
-    → WithAnyOut x after s before p
+    {x : Answer} {after before : List ℕ} {s t : State} {o : Outcome Kept} {k : Kept}
+    → o ≡ accepted k
+    → WithAnyOut x after t before (accepted k)
     → WithAnyOut x after s before o
 as-asked {before = before} {s = s} e w = record { each = λ out. w.each out ∙ ap (delivered s before out) (sym e) }
 
-pub refuses :
-    (n : ℕ) {x : Answer} {s : State} (b : List ℕ) {o : Outcome Kept}
-    → o ≡ refused n
-    → x ≡ answer n s 0
-    → WithAnyOut x b s b o
-refuses n b e f = as-asked e (record { each = λ out. ap (λ (a : Answer). effect a b out) f })
+pub refuses : {n : ℕ} {s : State} {b : List ℕ} {o : Outcome Kept} → o ≡ refused n → WithAnyOut (answer n s 0) b s b o
+refuses {s = s} {b = b} e = record { each = λ out. ap (delivered s b out) (sym e) }
 
--- Where nothing is taken out, the acknowledgements due are as they were.
-unused :
-    (r : Request) (s : State) (b : List ℕ) (link : ℕ)
-    → with_unacknowledged r link (BlUdata false) (without s.n_acks (acks_of s)) s b
-    ≡ with_unacknowledged r link (BlUdata false) (acks_of s) s b
-unused r s b link =
-    ap (λ (ds : List ScheduledOutAck). with_unacknowledged r link (BlUdata false) ds s b)
-    (without-none s.n_acks (acks_of s) (omega (arith, length-take s.n_acks s.scheduled_out_acks)))
+-- A row is found, or there is none free.
+row-refused : (b : Bool) (p : ℕ) (r : Refusal) → refused (number_of r) ≡ ask 7 b (accepted p) → (b ≡ false) × (number_of r ≡ 7)
+row-refused true p r e = let z : ◌≡◌ {A = ℕ} 0 1 = cc in absurd (omega arith)
+row-refused false p r e = (refl, cc)
+
+-- The acknowledgement that a request that steals goes with, taken out of a state.
+abbrev stolen : Request → State → Found ScheduledOutAck
+stolen r s = cond (steals r) (ack_for r s) nothing
+
+pub record Stolen (r : Request) (s : State) (due : Option ScheduledOutAck) (u : State) : Type 0 where
+  pub value : MatchOption due (stolen r s ≡ nothing) (λ d. stolen r s ≡ first d (acks_of u))
+  pub left : u ≡ with_acks s (others (stolen r s) (acks_of s))
+
+pub stolen-due :
+    (r : Request) (s : State) {x : Bool} (due : Option ScheduledOutAck) {u : State}
+    → x ≡ steals r
+    → x ≡ true
+    → MatchOption due (ack_for r s ≡ nothing) (λ d. ack_for r s ≡ first d (acks_of u))
+    → u ≡ with_acks s (others (ack_for r s) (acks_of s))
+    → Stolen r s due u
+stolen-due r s due {u} e t value left =
+    let f : ack_for r s ≡ stolen r s = sym (if-true (ack_for r s) nothing (sym e ∙ t)) in
+    record {
+      value = subst (λ (g : Found ScheduledOutAck). MatchOption due (g ≡ nothing) (λ d. g ≡ first d (acks_of u))) f value;
+      left = subst (λ (g : Found ScheduledOutAck). u ≡ with_acks s (others g (acks_of s))) f left;
+    }
+
+pub none-stolen : (r : Request) (s : State) {x : Bool} → x ≡ steals r → x ≡ false → s.n_acks ≤ length s.scheduled_out_acks → Stolen r s None s
+none-stolen r s e t few =
+    let f : stolen r s ≡ nothing = if-false (ack_for r s) nothing (sym e ∙ t) in
+    record {
+      value = f;
+      left = sym (same-acks s few) ∙ ap (λ (g : Found ScheduledOutAck). with_acks s (others g (acks_of s))) (sym f);
+    }
 
 module _ (r : Request) (s : State) (b : List ℕ) where
   abbrev taken : Bool
@@ -67,12 +88,9 @@ module _ (r : Request) (s : State) (b : List ℕ) where
   unfolding on_unitdata
   unitdata-8 t h = rw (t, le-ltb s.n_udata 32 h)
 
-  pub unitdata-put :
-      taken ≡ false
-      → s.n_udata < 32
-      → on_unitdata r s b ≡ accepted (with_unacknowledged r r.link (BlUdata false) (without s.n_acks (acks_of s)) s b)
+  pub unitdata-put : taken ≡ false → s.n_udata < 32 → on_unitdata r s b ≡ accepted (with_unacknowledged r r.link (BlUdata false) (acks_of s) s b)
   unfolding on_unitdata
-  unitdata-put t h = rw (t, lt-ltb s.n_udata 32 h, unused r s b r.link)
+  unitdata-put t h = rw (t, lt-ltb s.n_udata 32 h)
 
   -- Those of a data request: the receipt first.
   pub data-6 : taken ≡ true → on_data r s b ≡ refused 6
@@ -80,31 +98,22 @@ module _ (r : Request) (s : State) (b : List ℕ) where
   data-6 t = rw t
 
   -- On the acknowledged path.
-  module _ (t : taken ≡ false) (path : on_acknowledged_path r ≡ true) (long : Lengths s) (ok : state_in_range s ≡ true) where
-    asks-7 : row_for r.ssi s ≡ ltb (position (row_of r.ssi) (rows_of s)) 256
-    asks-7 = row_by r.ssi s ok long
-
-    pub data-7 : {row : ℕ} → row ≡ position (row_of r.ssi) (rows_of s) → 256 ≤ row → on_data r s b ≡ refused 7
+  module _ (t : taken ≡ false) (path : on_acknowledged_path r ≡ true) where
+    pub data-7 : (e : Refusal) → refused (number_of e) ≡ ask 7 (row_for r.ssi s) (accepted (position (row_of r.ssi) (rows_of s))) → on_data r s b ≡ refused (number_of e)
     unfolding on_data
-    data-7 {row} e h = rw (t, path, asks-7, ← e, le-ltb row 256 h)
+    data-7 e h = let no = row-refused (row_for r.ssi s) _ e h in rw (t, path, no.0, no.1)
 
-    pub data-8 :
-        {row : ℕ}
-        → row ≡ position (row_of r.ssi) (rows_of s)
-        → row < 256
-        → 64 ≤ s.n_messages
-        → on_data r s b ≡ refused 8
-    unfolding on_data
-    data-8 {row} e h full = rw (t, path, asks-7, ← e, lt-ltb row 256 h, le-ltb s.n_messages 64 full)
+    module _ {row : ℕ} (h : accepted row ≡ ask 7 (row_for r.ssi s) (accepted (position (row_of r.ssi) (rows_of s)))) where
+      pub row-is : row ≡ position (row_of r.ssi) (rows_of s)
+      row-is = cc (accepted-passed 7 (row_for r.ssi s) h).1
 
-    pub data-acknowledged :
-        {row : ℕ}
-        → row ≡ position (row_of r.ssi) (rows_of s)
-        → row < 256
-        → s.n_messages < 64
-        → on_data r s b ≡ accepted (with_acknowledged r s b)
-    unfolding on_data
-    data-acknowledged {row} e h room = rw (t, path, asks-7, ← e, lt-ltb row 256 h, lt-ltb s.n_messages 64 room)
+      pub data-8 : 64 ≤ s.n_messages → on_data r s b ≡ refused 8
+      unfolding on_data
+      data-8 full = rw (t, path, (accepted-passed 7 (row_for r.ssi s) h).0, le-ltb s.n_messages 64 full)
+
+      pub data-acknowledged : s.n_messages < 64 → on_data r s b ≡ accepted (with_acknowledged r s b)
+      unfolding on_data
+      data-acknowledged room = rw (t, path, (accepted-passed 7 (row_for r.ssi s) h).0, lt-ltb s.n_messages 64 room)
 
   -- Off it.
   module _ (t : taken ≡ false) (path : on_acknowledged_path r ≡ false) where
@@ -112,44 +121,35 @@ module _ (r : Request) (s : State) (b : List ℕ) where
     unfolding on_data
     data-full h = rw (t, path, le-ltb s.n_udata 32 h)
 
-    module _ (room : s.n_udata < 32) where
-      pub data-plain :
-          steals r ≡ false → on_data r s b ≡ accepted (with_unacknowledged r 0 (BlUdata false) (without s.n_acks (acks_of s)) s b)
-      unfolding on_data with_stolen
-      data-plain steal = rw (t, path, lt-ltb s.n_udata 32 room, steal, unused r s b 0)
+    by-steals : (x : Bool) → cond x (with_stolen r s b (ack_for r s)) (with_stolen r s b nothing) ≡ with_stolen r s b (cond x (ack_for r s) nothing)
+    by-steals true = refl
+    by-steals false = refl
 
-      -- What steals goes with the acknowledgement due at the place where the search ended.
-      module _ (steal : steals r ≡ true) {carrier ack : ℕ} (on : carrier ≡ carrier_for r s) (at : ack ≡ position (ack_on r.ssi carrier) (acks_of s)) where
-        stolen : on_data r s b ≡ accepted (with_stolen r s b (ack_for r s))
-        unfolding on_data
-        stolen = rw (t, path, lt-ltb s.n_udata 32 room, steal)
+    data-stolen : s.n_udata < 32 → on_data r s b ≡ accepted (with_stolen r s b (stolen r s))
+    unfolding on_data
+    data-stolen room = rw (t, path, lt-ltb s.n_udata 32 room) (ap accepted (by-steals (steals r)))
 
-        place : ack ≡ position (ack_on r.ssi (carrier_for r s)) (acks_of s)
-        place = at ∙ ap (λ (k : ℕ). position (ack_on r.ssi k) (acks_of s)) on
+    module _ (room : s.n_udata < 32) {u : State} (left : u ≡ with_acks s (others (stolen r s) (acks_of s))) where
+      put-same :
+          (link : ℕ) (pdu : Pdu) (ds : List ScheduledOutAck)
+          → others (stolen r s) (acks_of s) ≡ ds
+          → with_unacknowledged r link pdu (acks_of u) u b ≡ with_unacknowledged r link pdu ds s b
+      put-same link pdu ds e =
+          ap (λ (t : State). with_unacknowledged r link pdu (acks_of t) t b) (left ∙ ap (with_acks s) e) ∙ put-then r s b link pdu ds
 
-        pub data-stolen :
-            Lengths s
-            → state_in_range s ≡ true
-            → ack < s.n_acks
-            → on_data r s b
-            ≡ accepted
-            (with_unacknowledged r r.link (BlAck (wants_fcs r) (get_or s.scheduled_out_acks ack no_ack).nr) (without ack (acks_of s)) s b)
-        unfolding with_stolen ack_for
-        data-stolen long ok h =
-            let few : s.n_acks ≤ 64 = (range-tells s ok).head.acks in
-            let count = length-take-le s.n_acks s.scheduled_out_acks (omega (arith, long.acks)) in
-            let found = found_at (ack_on r.ssi (carrier_for r s)) (acks_of s) no_ack (omega (arith, place)) in
-            stolen
-            ∙ ap (λ (f : Found ScheduledOutAck). accepted (with_stolen r s b f)) found
-            ∙ rw (← place, get_or-take s.n_acks s.scheduled_out_acks ack no_ack h)
+      pub data-with :
+          {d : ScheduledOutAck}
+          → stolen r s ≡ first d (acks_of u)
+          → on_data r s b ≡ accepted (with_unacknowledged r r.link (BlAck (wants_fcs r) d.nr) (acks_of u) u b)
+      unfolding with_stolen
+      data-with {d} e =
+          data-stolen room
+          ∙ ap (λ (f : Found ScheduledOutAck). accepted (with_stolen r s b f)) e
+          ∙ ap accepted (sym (put-same r.link (BlAck (wants_fcs r) d.nr) (acks_of u) (ap (λ (f : Found ScheduledOutAck). others f (acks_of s)) e)))
 
-        pub data-undue :
-            s.n_acks ≤ ack
-            → on_data r s b ≡ accepted (with_unacknowledged r 0 (BlUdata false) (without s.n_acks (acks_of s)) s b)
-        unfolding with_stolen ack_for
-        data-undue h =
-            let count = length-take s.n_acks s.scheduled_out_acks in
-            let none = found_none (ack_on r.ssi (carrier_for r s)) (acks_of s) (omega (arith, place)) in
-            stolen
-            ∙ ap (λ (f : Found ScheduledOutAck). accepted (with_stolen r s b f)) none
-            ∙ ap accepted (sym (unused r s b 0))
+      pub data-without : stolen r s ≡ nothing → on_data r s b ≡ accepted (with_unacknowledged r 0 (BlUdata false) (acks_of u) u b)
+      unfolding with_stolen
+      data-without e =
+          data-stolen room
+          ∙ ap (λ (f : Found ScheduledOutAck). accepted (with_stolen r s b f)) e
+          ∙ ap accepted (sym (put-same 0 (BlUdata false) (acks_of s) (ap (λ (f : Found ScheduledOutAck). others f (acks_of s)) e)))

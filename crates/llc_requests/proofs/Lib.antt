@@ -1,4 +1,4 @@
-pub mod Blocks
-pub mod Stores
-pub mod Puts
 pub mod Asked
+pub mod Due
+pub mod Puts
+pub mod Stores

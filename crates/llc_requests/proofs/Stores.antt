@@ -1,22 +1,25 @@
 -- A frame that was written to the front of a part of the store, as the store has it.
 use Prim.Native.Nat.{ℕ, ◌+◌, ◌-◌, ◌*◌, ◌≤◌, ◌<◌}
 use native.Mathlib.Omega.{arith}
-use mathlib.Core.Path.{◌≡◌, ◌∙◌, sym, ap}
+use mathlib.Core.Path.{◌≡◌, ◌∙◌, refl, sym, ap}
 use mathlib.Core.List.{List, ◌++◌, append_assoc}
 use lib.ListN.{length, take, drop, length-drop, take-append-drop}
-use lib.Seq.{take_all, drop-append-le, drop-drop, length-take-le}
+use lib.Seq.{drop-append-le, drop-drop, length-take-le}
+use Rattle.std.specs.Prelude.{Result, Ok, Err}
+use Rattle.std.specs.Result.{IsOk}
 use Rattle.bits.specs.Bits.{bits, splice}
+use Rattle.bits.specs.Parts.{bits_of}
 use Rattle.bits.proofs.Laws.{bits-append, length-bits, drop_bits, take-bits}
 use Rattle.questions.specs.Outcome.{accepted}
 use Rattle.questions.specs.Effect.{effect, Effect}
-use Rattle.llc_pdus.specs.Answers.{written}
+use Rattle.questions.specs.Refusals.{outcome}
+use Rattle.questions.specs.declared.Refusal.{Refusal}
 use Rattle.llc_pdus.specs.Frames.{frame_bits}
-use Rattle.llc_pdus.specs.Writes.{longest, longest_sent, written as written_of}
+use Rattle.llc_pdus.specs.Writes.{longest, longest_sent, written}
 use Rattle.llc_pdus.specs.declared.Pdu.{Pdu}
 use Rattle.llc_pdus.proofs.Framing.{frame-short, has_room as all-written}
-use Rattle.llc_pdus.specs.declared.Written.{Written}
 use Rattle.llc_rule.specs.Limits.{place_bytes, store_bytes, store_places}
-use Rattle.llc_calls.specs.Decoded.{request_of, RequestInside}
+use Rattle.llc_calls.specs.Decoded.{request_of}
 use Rattle.llc_calls.specs.declared.RequestCall.{RequestCall}
 use Rattle.llc_calls.proofs.Laws.{bits-length}
 use Rattle.llc_state.specs.View.{place_bit}
@@ -51,27 +54,25 @@ whole xs ys a k vs inside fits e =
     ∙ ap (λ (t : List ℕ). t ++ (vs ++ drop (8 * a + length vs) (bits xs))) (sym (take-bits a xs))
 
 -- The frame of a PDU and a request, written to a place of the store: the answer and the bits after it.
-pub record Put (p : Pdu) (q : RequestCall) (b : List ℕ) (place : ℕ) (before : List ℕ) (r : Written) (after : List ℕ) : Type 0 where
-  pub answer : written r ≡ accepted (length (frame_bits p (request_of q b).sdu))
-  pub store : bits after ≡ splice (bits before) (place_bit place) (frame_bits p (request_of q b).sdu)
+pub record Put (p : Pdu) (q : RequestCall) (place : ℕ) (before : List ℕ) (r : Result ℕ Refusal) (after : List ℕ) : Type 0 where
+  pub answer : outcome r ≡ accepted (length (frame_bits p (request_of q).sdu))
+  pub store : bits after ≡ splice (bits before) (place_bit place) (frame_bits p (request_of q).sdu)
 
 pub put :
-    (p : Pdu) (q : RequestCall) (b : List ℕ) (place : ℕ) (xs ys : List ℕ) (r : Written)
+    (p : Pdu) (q : RequestCall) (place : ℕ) (xs ys : List ℕ) (r : Result ℕ Refusal)
     → length xs ≡ store_bytes
     → place < store_places
-    → q.sdu_len ≤ longest
-    → RequestInside q b
-    → effect (written r) (bits ys)
-    ≡ written_of p
+    → q.sdu.len ≤ longest
+    → effect (outcome r) (bits ys)
+    ≡ written p
     (bits (take (place * place_bytes + place_bytes - place * place_bytes) (drop (place * place_bytes) xs)))
-    (bits (take (length b - q.sdu) (drop q.sdu b)))
-    0
-    q.sdu_len
-    → Put p q b place xs r (take (place * place_bytes) xs ++ (ys ++ drop (place * place_bytes + place_bytes - place * place_bytes) (drop (place * place_bytes) xs)))
+    (bits q.sdu.bytes.now)
+    q.sdu.place
+    q.sdu.len
+    → Put p q place xs r (take (place * place_bytes) xs ++ (ys ++ drop (place * place_bytes + place_bytes - place * place_bytes) (drop (place * place_bytes) xs)))
 unfolding request_of
-put p q b place xs ys r long there few inside e =
+put p q place xs ys r long there few e =
     let a : ℕ = place * place_bytes in
-    let n : ℕ = q.sdu_len in
     let k : ℕ = a + place_bytes - a in
     let size : k ≡ place_bytes = omega arith in
     let mid : List ℕ = take k (drop a xs) in
@@ -79,16 +80,12 @@ put p q b place xs ys r long there few inside e =
     let room : length (bits mid) ≡ 8 * k =
     length-bits mid ∙ ap (λ (m : ℕ). 8 * m) (length-take-le k (drop a xs) (omega arith))
     in
-    let s : List ℕ = drop q.sdu b in
-    let left_over = length-drop q.sdu b in
-    let rest : take (length b - q.sdu) s ≡ s = take_all (length b - q.sdu) s (omega arith) in
-    let bits-there : n ≤ length (bits s) = omega (arith, length-bits s, inside.parts.bits_in) in
-    let frame : List ℕ = frame_bits p (take n (bits s)) in
-    let short : length frame ≤ longest_sent = frame-short p (take n (bits s)) (omega (arith, bits-length inside.parts)) in
-    let done : effect (written r) (bits ys) ≡ effect (accepted (length frame)) (splice (bits mid) 0 frame) =
-    e
-    ∙ ap (λ (t : List ℕ). written_of p (bits mid) (bits t) 0 n) rest
-    ∙ all-written p (bits mid) (bits s) 0 n few (omega arith) (omega arith)
+    let s : List ℕ = bits q.sdu.bytes.now in
+    let inside : q.sdu.place + q.sdu.len ≤ length s = omega (arith, length-bits q.sdu.bytes.now, q.sdu.inside) in
+    let frame : List ℕ = frame_bits p (bits_of q.sdu) in
+    let short : length frame ≤ longest_sent = frame-short p (bits_of q.sdu) (omega (arith, bits-length q.sdu)) in
+    let done : effect (outcome r) (bits ys) ≡ effect (accepted (length frame)) (splice (bits mid) 0 frame) =
+    e ∙ all-written p (bits mid) s q.sdu.place q.sdu.len few (omega (arith, q.sdu.begins)) (omega arith)
     in
     let at : 8 * a ≡ place_bit place = omega arith in
     record {
@@ -98,13 +95,11 @@ put p q b place xs ys r long there few inside e =
           ∙ ap (λ (m : ℕ). splice (bits xs) m frame) at;
     }
 
--- The code knows the answer by its case.
-module _ {p : Pdu} {q : RequestCall} {b : List ℕ} {place : ℕ} {before : List ℕ} {r : Written} {after : List ℕ} (d : Put p q b place before r after) where
-  pub length-is : (n : ℕ) → r ≡ Written.Bits n → n ≡ length (frame_bits p (request_of q b).sdu)
-  length-is n e = cc d.answer
+-- The call is not refused, and its value is the length.
+module _ {p : Pdu} {q : RequestCall} {place : ℕ} {before after : List ℕ} where
+  pub is_written : (r : Result ℕ Refusal) → Put p q place before r after → IsOk r
+  is_written (Ok n) d = refl
+  is_written (Err e) d = cc d.answer
 
-  pub in-range : r ≡ Written.OutOfRange → ⊥
-  in-range e = let z : ◌≡◌ {A = ℕ} 0 1 = cc d.answer in omega arith
-
-  pub has_room : r ≡ Written.NoRoom → ⊥
-  has_room e = let z : ◌≡◌ {A = ℕ} 0 1 = cc d.answer in omega arith
+  pub length-is : {r : Result ℕ Refusal} → Put p q place before r after → (n : ℕ) → r ≡ Ok n → n ≡ length (frame_bits p (request_of q).sdu)
+  length-is d n e = cc d.answer

@@ -4,34 +4,47 @@ ghost use Rattle.bits.specs.Bits.{bits, splice};
 ghost use Rattle.llc_pdus.specs.Frames.{frame_bits};
 ghost use Rattle.llc_pdus.specs.Writes.{longest};
 ghost use Rattle.llc_rule.specs.Limits.{store_bytes, store_places};
-ghost use Rattle.llc_calls.specs.Decoded.{request_of, RequestInside};
+ghost use Rattle.llc_rule.specs.Ranges.{steals, wants_fcs};
+ghost use Rattle.llc_calls.specs.Decoded.{request_of};
 ghost use Rattle.llc_state.specs.View.{place_bit};
 ghost use Rattle.llc_steps.specs.Calls.{sent_for, entry_of};
 
 use llc_calls::RequestCall;
-use llc_pdus::{Pdu, Written, to_bitbuf};
+use llc_pdus::{Pdu, to_bitbuf};
 use llc_state::{Entry, FramePlace, PLACE_BYTES, Progress, TmaUnitdataReq};
 
+// Flag 1: does a request steal?
+#[tactic(auto, unfolding(llc_calls::specs::Decoded::request_of))]
+pub(crate) fn steals(q: &RequestCall) -> bool
+    ensures { result ≡ steals (request_of q.now) }
+{
+    q.flags % 2 == 1
+}
+
+// Flag 2: does it want a check sequence?
+#[tactic(auto, unfolding(llc_calls::specs::Decoded::request_of))]
+pub(crate) fn wants_fcs(q: &RequestCall) -> bool
+    ensures { result ≡ wants_fcs (request_of q.now) }
+{
+    q.flags / 2 % 2 == 1
+}
+
 // The block of a request, with zeros behind it.
-fn block_of(q: RequestCall, bytes: &[u8]) -> [u8; 64]
-    requires block_len_bound { q.block_len ≤ 64 }
-    requires request_inside { RequestInside q bytes.now }
-    ensures { result ≡ (sent_for (request_of q bytes.now) 0 0).block }
+#[tactic(auto, unfolding(llc_calls::specs::Decoded::request_of))]
+fn block_of(q: &RequestCall) -> [u8; 64]
+    requires { length q.now.block.now ≤ 64 }
+    ensures { result ≡ (sent_for (request_of q.now) 0 0).block }
 {
     let mut block = [0; 64];
-    let mut i = 0;
-    while i < q.block_len {
-        block[i] = bytes[q.block + i];
-        i += 1;
-    }
+    block[..q.block.len()].copy_from_slice(q.block);
     block
 }
 
 // What of a request is handed down, on a carrier and with a link id.
-fn sent_of(q: RequestCall, bytes: &[u8], carrier: u16, link: u32) -> TmaUnitdataReq
-    requires block_len_bound { q.block_len ≤ 64 }
-    requires request_inside { RequestInside q bytes.now }
-    ensures { result ≡ sent_for (request_of q bytes.now) carrier link }
+#[tactic(auto, unfolding(llc_calls::specs::Decoded::request_of))]
+fn sent_of(q: &RequestCall, carrier: u16, link: u32) -> TmaUnitdataReq
+    requires { length q.now.block.now ≤ 64 }
+    ensures { result ≡ sent_for (request_of q.now) carrier link }
 {
     TmaUnitdataReq {
         ssi: q.ssi,
@@ -40,57 +53,50 @@ fn sent_of(q: RequestCall, bytes: &[u8], carrier: u16, link: u32) -> TmaUnitdata
         link_id: link,
         endpoint_id: q.endpoint,
         req_handle: q.handle,
-        stealing_permission: q.flags % 2 == 1,
+        stealing_permission: steals(q),
         has_mask: q.flags / 4 % 2 == 1,
         mask: q.mask,
         receipt: q.receipt,
-        block_len: q.block_len,
-        block: block_of(q, bytes),
+        block_len: q.block.len(),
+        block: block_of(q),
     }
 }
 
 // The entry of a request's message.
+#[tactic(auto, unfolding(llc_steps::specs::Calls::entry_of))]
 pub(crate) fn entry_of(
-    q: RequestCall,
-    bytes: &[u8],
+    q: &RequestCall,
     carrier: u16,
     link: u32,
-    place: usize,
-    len: usize,
+    frame: FramePlace,
     ns: bool,
 ) -> Entry
-    requires block_len_bound { q.block_len ≤ 64 }
-    requires request_inside { RequestInside q bytes.now }
-    ensures { result ≡ entry_of (request_of q bytes.now) carrier link place len ns }
+    requires { length q.now.block.now ≤ 64 }
+    ensures { result ≡ entry_of (request_of q.now) carrier link frame.place frame.len ns }
 {
     Entry {
-        sent: sent_of(q, bytes, carrier, link),
-        frame: FramePlace { place, len },
+        sent: sent_of(q, carrier, link),
+        frame,
         progress: Progress::new(ns),
     }
 }
 
 // Writes the frame of a request's message to a place of the store, and answers how many bits it has.
-pub(crate) fn put_frame(
-    store: &mut [u8],
-    place: usize,
-    pdu: Pdu,
-    q: RequestCall,
-    bytes: &[u8],
-) -> usize
+pub(crate) fn put_frame(store: &mut [u8], place: usize, pdu: Pdu, q: &RequestCall) -> usize
     requires store_len { length store.old ≡ store_bytes }
     requires place_lt_store_places { place < store_places }
-    requires sdu_len_bound { q.sdu_len ≤ longest }
-    requires request_inside { RequestInside q bytes.now }
-    ensures store_after { bits store.new ≡ splice (bits store.old) (place_bit place) (frame_bits pdu (request_of q bytes.now).sdu) }
-    ensures value { result ≡ length (frame_bits pdu (request_of q bytes.now).sdu) }
+    requires sdu_len_bound { q.now.sdu.len ≤ longest }
+    ensures store_after { bits store.new ≡ splice (bits store.old) (place_bit place) (frame_bits pdu (request_of q.now).sdu) }
+    ensures value { result ≡ length (frame_bits pdu (request_of q.now).sdu) }
 {
     let first = place * PLACE_BYTES;
     let end = first + PLACE_BYTES;
-    let sdu = q.sdu;
-    match to_bitbuf(pdu, &bytes[sdu..], 0, q.sdu_len, &mut store[first..end]) {
-        Written::Bits(len) => len,
-        Written::OutOfRange => 0,
-        Written::NoRoom => 0,
-    }
+    to_bitbuf(
+        pdu,
+        q.sdu.bytes,
+        q.sdu.place,
+        q.sdu.len,
+        &mut store[first..end],
+    )
+    .unwrap()
 }

@@ -7,7 +7,7 @@ use borrow.Author.Tests.{eqb-true, eqb-false, eq-eqb, ne_eqb, ltb-true, ltb-fals
 use lib.Dec.{eqb, ltb}
 use lib.ListN.{length, set, length-set, get_or-eq_default}
 use lib.Seq.{get_or-set_other, set_out}
-use Rattle.lists.proofs.Lists.{get_d_set}
+use Rattle.lists.proofs.Lists.{get_or_set}
 use Rattle.lists.proofs.Choices.{by-test}
 use Rattle.tx_receipt.specs.Marks as Marks
 use Rattle.tx_receipt.specs.Marks.{Mark}
@@ -24,7 +24,7 @@ pub place_set :
     (ps : List Place) (i j : ℕ) (p : Place)
     → i < length ps
     → place_at (set ps i p) j ≡ cond (eqb j i) p (place_at ps j)
-place_set ps i j p h = get_d_set ps i j p free h
+place_set ps i j p h = get_or_set ps i j p free h
 
 pub place_other : (ps : List Place) (i j : ℕ) (p : Place) → eqb j i ≡ false → place_at (set ps i p) j ≡ place_at ps j
 place_other ps i j p h = get_or-set_other ps i j p free (eqb-false j i h)

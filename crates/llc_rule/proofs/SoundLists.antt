@@ -8,7 +8,7 @@ use borrow.Author.Tests.{eqb-true, not-true}
 use lib.Dec.{eqb}
 use lib.ListN.{length, set}
 use Rattle.lists.specs.Lists.{keep, any}
-use Rattle.lists.proofs.Lists.{keep-yes, keep-no, keep_append, any_append, get_d_set}
+use Rattle.lists.proofs.Lists.{keep-yes, keep-no, keep_append, any_append, get_or_set}
 use Rattle.lists.proofs.Choices.{by-test, neither, clash}
 use Rattle.tx_receipt.specs.States.{is}
 use Rattle.tx_receipt.specs.Marks.{Mark}
@@ -57,7 +57,7 @@ pub free-written :
     → (j : ℕ)
     → is_free (place_at (set ps i p) j) ≡ is_nobody (holding i who h j)
 free-written h ps i who p b e f j =
-    rw (get_d_set ps i j p free b) (by-test (eqb j i) (λ t. rw t e) (λ t. rw t (f j)))
+    rw (get_or_set ps i j p free b) (by-test (eqb j i) (λ t. rw t e) (λ t. rw t (f j)))
 
 -- Another receipt written: what is Pending stays so.
 pub pending-other : (ps : List Place) (i j : ℕ) (p : Place) → eqb j i ≡ false → IsPending ps j → IsPending (set ps i p) j

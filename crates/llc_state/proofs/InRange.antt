@@ -6,7 +6,9 @@ use mathlib.Core.Bool.{Bool, true, false, ◌&&◌}
 use borrow.Author.Tests.{leb-true, ltb-true, le-leb}
 use lib.Dec.{leb, ltb}
 use lib.ListN.{take}
+use Rattle.std.specs.List.{list_all}
 use Rattle.lists.specs.Lists.{all}
+use Rattle.lists.proofs.Std.{all-list}
 use Rattle.lists.proofs.Choices.{both, and-true, clash}
 use Rattle.tdma_time.specs.Slots.{valid}
 use Rattle.tdma_time.specs.declared.TdmaTime.{TdmaTime}
@@ -177,3 +179,16 @@ range-tells s h =
 pub in-range : (s : State) → InRange s → state_in_range s ≡ true
 unfolding state_in_range
 in-range s r = rw (head-holds s r.head, r.messages, r.udata, r.acks, r.rows, r.places)
+
+-- The code's question: the counts and the time, and then each array in std's words.
+pub all_asked :
+    (s : State)
+    → head_in_range s ≡ true
+    → list_all message_in_range (take s.n_messages s.outbound_messages)
+    && list_all udata_in_range (take s.n_udata s.outbound_udata_messages)
+    && list_all ack_in_range (take s.n_acks s.scheduled_out_acks)
+    && list_all row_in_range (take s.n_rows s.link_send_seq)
+    && list_all place_in_range s.receipts
+    ≡ state_in_range s
+unfolding state_in_range
+all_asked s h = rw (h, all-list message_in_range, all-list udata_in_range, all-list ack_in_range, all-list row_in_range, all-list place_in_range)

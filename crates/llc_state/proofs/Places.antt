@@ -1,51 +1,21 @@
 -- Receipts marked, taken and freed in a state are so in the link that lies in it.
 use Prim.Native.Nat.{ℕ}
 use mathlib.Core.Path.{◌≡◌, ◌∙◌, refl, sym, ap}
-use mathlib.Core.Bool.{Bool, true, false, not, ◌&&◌}
+use mathlib.Core.Bool.{Bool, true, false, ◌&&◌}
 use mathlib.Core.List.{List, map}
-use borrow.Author.Tests.{not-true, not-false}
-use lib.Dec.{eqb}
 use lib.ListN.{set, get_or-map}
-use Rattle.lists.proofs.Choices.{if-true, if-false}
 use Rattle.tx_receipt.specs.Marks as Marks
 use Rattle.tx_receipt.specs.Marks.{Mark}
 use Rattle.tx_receipt.specs.declared.TxReceipt.{TxReceipt}
-use Rattle.tx_receipt.proofs.Laws.{numbered-number, made-by-number}
+use Rattle.tx_receipt.proofs.Laws.{numbered-number}
 use Rattle.llc_rule.specs.Messages.{free, taken, pending, taken?, marked, mark, place_at}
 use Rattle.llc_rule.specs.Keeps.{with_receipts}
-use Rattle.llc_state.specs.Receipts.{receipt_of, with_places, taken_by, with_receipt, marked_place, pending_place, place_of, mark as mark_places, mark_receipt, take_receipt, free_receipt}
+use Rattle.llc_state.specs.Receipts.{receipt_of, with_places, taken_by, marked_place, pending_place, place_of, mark as mark_places, mark_receipt, take_receipt, free_receipt}
 use Rattle.llc_state.specs.States.{no_receipt}
 use Rattle.llc_state.specs.View.{place_in, link_in}
 use Rattle.llc_state.specs.declared.ReceiptPlace.{ReceiptPlace}
 use Rattle.llc_state.specs.declared.State.{State}
 use Rattle.llc_state.proofs.Maps.{map-set}
-
--- A place that is not taken, and one that is.
-pub with-free : (r : TxReceipt) (p : ReceiptPlace) → not p.taken ≡ true → p ≡ with_receipt r p
-with-free r p h = sym (if-false (taken_by r) p (not-true p.taken h))
-
-pub with-taken : (r : TxReceipt) (p : ReceiptPlace) → not p.taken ≡ false → taken_by r ≡ with_receipt r p
-with-taken r p h = sym (if-true (taken_by r) p (not-false p.taken h))
-
--- A marked place, from the receipt of the place and what the mark hands back.
-pub marked-with :
-    (k : Mark) (p : ReceiptPlace) {q : ReceiptPlace} {r t : TxReceipt}
-    → q ≡ with_receipt r p
-    → r ≡ (Marks.marked k t).receipt
-    → t ≡ receipt_of p
-    → q ≡ marked_place k p
-marked-with k p with-r handed of-place =
-    with-r ∙ ap (λ (x : TxReceipt). with_receipt x p) (handed ∙ ap (λ (x : TxReceipt). (Marks.marked k x).receipt) of-place)
-
--- A mark's number says whether it is allowed on the receipt of the place.
-pub allowed-by :
-    (k : Mark) (p : ReceiptPlace) {n : ℕ} {t : TxReceipt}
-    → n ≡ (Marks.marked k t).number
-    → t ≡ receipt_of p
-    → p.taken && eqb n 0 ≡ p.taken && Marks.allowed k (receipt_of p)
-allowed-by k p answered of-place =
-    ap (λ (b : Bool). p.taken && b)
-    (ap (λ (x : ℕ). eqb x 0) (answered ∙ ap (λ (x : TxReceipt). (Marks.marked k x).number) of-place) ∙ made-by-number k (receipt_of p))
 
 -- A marked place as the link has it.
 taken-in-link : (r : TxReceipt) → place_in (taken_by r) ≡ taken r

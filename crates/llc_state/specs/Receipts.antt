@@ -1,5 +1,5 @@
 -- A state with one receipt marked, taken or freed.
-use Rattle.std.specs.Prelude.{ℕ, Bool, true, cond, List, get_or, set}
+use Rattle.std.specs.Prelude.{ℕ, Bool, true, cond, List, get_or, set, Option, Some, None}
 use Rattle.tx_receipt.specs.States.{number, numbered}
 use Rattle.tx_receipt.specs.Marks.{Mark, marked}
 use Rattle.tx_receipt.specs.declared.TxState.TheVariants.{Pending}
@@ -27,9 +27,12 @@ with_places s ps =
       link_send_seq = s.link_send_seq;
     }
 
--- The receipt of a place.
+-- The receipt of a place, and that of one that may be free.
 abbrev pub receipt_of : ReceiptPlace → TxReceipt
 receipt_of p = record { expects_ack = p.expects_ack; state = numbered p.state }
+
+abbrev pub receipt_in : ReceiptPlace → Option TxReceipt
+receipt_in p = cond p.taken (Some (receipt_of p)) None
 
 -- A place that a receipt has taken, and one that a request has.
 abbrev pub taken_by : TxReceipt → ReceiptPlace

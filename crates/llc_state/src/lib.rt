@@ -1,7 +1,6 @@
-// The state of the basic link by value, from tetra-entities' llc_bs_ms.rs, and question 1 of its values.
+// The state of the basic link, from tetra-entities' llc_bs_ms.rs, and question 1 of its values.
 #![tactic(auto)]
 
-mod marks;
 mod ranges;
 mod receipts;
 mod starts;

@@ -1,6 +1,7 @@
 // Question 1 of a state's counts and values in use.
-ghost use Rattle.std.specs.Prelude.{◌≤◌, ◌≡◌, take};
-ghost use Rattle.lists.specs.Lists.{all};
+ghost use Rattle.std.specs.Prelude.{◌≡◌, ◌≤◌};
+ghost use Rattle.std.specs.Bool.{OnTrue};
+ghost use Rattle.std.specs.List.{list_all};
 ghost use Rattle.llc_state.specs.Ranges.{sent_in_range, progress_in_range, entry_in_range, message_in_range, udata_in_range, ack_in_range, place_in_range, row_in_range, head_in_range, state_in_range};
 
 use crate::{
@@ -21,8 +22,9 @@ const SHORTEST_UDATA: usize = 4;
 const LONGEST_UDATA: usize = 5 + N251_BL_MAX_TLSDU_LEN_BITS + FCS_BITS;
 
 // What is handed down of a message.
-fn sent_in_range(sent: TmaUnitdataReq) -> bool
-    ensures { result ≡ sent_in_range sent }
+#[tactic(auto, unfolding(crate::specs::Ranges::sent_in_range))]
+fn sent_in_range(sent: &TmaUnitdataReq) -> bool
+    ensures { result ≡ sent_in_range sent.now }
 {
     (sent.ssi < 16_777_216)
         & ((sent.ssi_type == 1) | (sent.ssi_type == 2))
@@ -32,136 +34,105 @@ fn sent_in_range(sent: TmaUnitdataReq) -> bool
 }
 
 // How far a message has come.
-fn progress_in_range(progress: Progress) -> bool
-    ensures { result ≡ progress_in_range progress }
+#[tactic(auto, unfolding(crate::specs::Ranges::progress_in_range))]
+fn progress_in_range(progress: &Progress) -> bool
+    ensures { result ≡ progress_in_range progress.now }
 {
     (progress.retransmit_count <= 3) & (!progress.has_umac_done | progress.t_umac_done.is_valid())
 }
 
 // An entry of either queue.
-fn entry_in_range(e: Entry) -> bool
-    ensures { result ≡ entry_in_range e }
+#[tactic(auto, unfolding(crate::specs::Ranges::entry_in_range))]
+fn entry_in_range(e: &Entry) -> bool
+    ensures { result ≡ entry_in_range e.now }
 {
-    sent_in_range(e.sent) & (e.frame.place < STORE_PLACES)
+    sent_in_range(&e.sent) & (e.frame.place < STORE_PLACES)
 }
 
 // An entry of the acknowledged queue.
-fn message_in_range(e: Entry) -> bool
-    ensures { result ≡ message_in_range e }
+#[tactic(auto, unfolding(crate::specs::Ranges::message_in_range))]
+fn message_in_range(e: &Entry) -> bool
+    ensures { result ≡ message_in_range e.now }
 {
     entry_in_range(e)
         & (SHORTEST_MESSAGE <= e.frame.len)
         & (e.frame.len <= LONGEST_MESSAGE)
-        & progress_in_range(e.progress)
+        & progress_in_range(&e.progress)
 }
 
 // An entry of the unacknowledged queue.
-fn udata_message_in_range(e: Entry) -> bool
-    ensures { result ≡ udata_in_range e }
+#[tactic(auto, unfolding(crate::specs::Ranges::udata_in_range))]
+fn udata_message_in_range(e: &Entry) -> bool
+    ensures { result ≡ udata_in_range e.now }
 {
     entry_in_range(e) & (SHORTEST_UDATA <= e.frame.len) & (e.frame.len <= LONGEST_UDATA)
 }
 
 // An acknowledgement that is due.
-fn ack_in_range(a: ScheduledOutAck) -> bool
-    ensures { result ≡ ack_in_range a }
+#[tactic(auto, unfolding(crate::specs::Ranges::ack_in_range))]
+fn ack_in_range(a: &ScheduledOutAck) -> bool
+    ensures { result ≡ ack_in_range a.now }
 {
     (a.ssi < 16_777_216) & ((a.ssi_type == 1) | (a.ssi_type == 2)) & (1 <= a.ts) & (a.ts <= 4)
 }
 
 // The place of a receipt.
-fn place_in_range(place: ReceiptPlace) -> bool
-    ensures { result ≡ place_in_range place }
+#[tactic(auto, unfolding(crate::specs::Ranges::place_in_range))]
+fn place_in_range(place: &ReceiptPlace) -> bool
+    ensures { result ≡ place_in_range place.now }
 {
     !place.taken | (place.state < 5)
 }
 
 // An address row.
-fn row_in_range(row: LinkSendSeq) -> bool
-    ensures { result ≡ row_in_range row }
+#[tactic(auto, unfolding(crate::specs::Ranges::row_in_range))]
+fn row_in_range(row: &LinkSendSeq) -> bool
+    ensures { result ≡ row_in_range row.now }
 {
     row.ssi < 16_777_216
 }
 
-// The first n messages.
-fn messages_in_range(entries: [Entry; 64], n: usize) -> bool
-    requires { n ≤ 64 }
-    ensures { result ≡ all message_in_range (take n entries) }
+// All messages of a queue.
+fn messages_in_range(entries: &[Entry]) -> bool
+    ensures { result ≡ list_all message_in_range entries.now }
 {
-    let mut i = 0;
-    while i < n {
-        if !message_in_range(entries[i]) {
-            return false;
-        }
-        i += 1;
-    }
-    true
+    entries.iter().all(message_in_range)
 }
 
-// The first n unacknowledged messages.
-fn udata_in_range(entries: [Entry; 32], n: usize) -> bool
-    requires { n ≤ 32 }
-    ensures { result ≡ all udata_in_range (take n entries) }
+// All unacknowledged messages.
+fn udata_in_range(entries: &[Entry]) -> bool
+    ensures { result ≡ list_all udata_in_range entries.now }
 {
-    let mut i = 0;
-    while i < n {
-        if !udata_message_in_range(entries[i]) {
-            return false;
-        }
-        i += 1;
-    }
-    true
+    entries.iter().all(udata_message_in_range)
 }
 
-// The first n due acknowledgements.
-fn acks_in_range(acks: [ScheduledOutAck; 64], n: usize) -> bool
-    requires { n ≤ 64 }
-    ensures { result ≡ all ack_in_range (take n acks) }
+// All acknowledgements that are due.
+fn acks_in_range(acks: &[ScheduledOutAck]) -> bool
+    ensures { result ≡ list_all ack_in_range acks.now }
 {
-    let mut i = 0;
-    while i < n {
-        if !ack_in_range(acks[i]) {
-            return false;
-        }
-        i += 1;
-    }
-    true
+    acks.iter().all(ack_in_range)
 }
 
-// The first n rows.
-fn rows_in_range(rows: [LinkSendSeq; 256], n: usize) -> bool
-    requires { n ≤ 256 }
-    ensures { result ≡ all row_in_range (take n rows) }
+// All rows.
+fn rows_in_range(rows: &[LinkSendSeq]) -> bool
+    ensures { result ≡ list_all row_in_range rows.now }
 {
-    let mut i = 0;
-    while i < n {
-        if !row_in_range(rows[i]) {
-            return false;
-        }
-        i += 1;
-    }
-    true
+    rows.iter().all(row_in_range)
 }
 
-// The first n receipts' places.
-fn places_in_range(places: [ReceiptPlace; 128], n: usize) -> bool
-    requires { n ≤ 128 }
-    ensures { result ≡ all place_in_range (take n places) }
+// All receipts' places.
+fn places_in_range(places: &[ReceiptPlace]) -> bool
+    ensures { result ≡ list_all place_in_range places.now }
 {
-    let mut i = 0;
-    while i < n {
-        if !place_in_range(places[i]) {
-            return false;
-        }
-        i += 1;
-    }
-    true
+    places.iter().all(place_in_range)
 }
 
 impl State {
     // The counts, and T251 and the time once they are set.
-    fn head_in_range(self) -> bool
-        ensures { result ≡ head_in_range self }
+    #[tactic(auto, unfolding(crate::specs::Ranges::head_in_range))]
+    fn head_in_range(&self) -> bool
+        ensures value { result ≡ head_in_range self.now }
+        ensures counts { OnTrue result ((self.now.n_messages ≤ 64) × (self.now.n_udata ≤ 32) × (self.now.n_acks ≤ 64) × (self.now.n_rows ≤ 256)) }
     {
         (self.n_messages <= 64)
             & (self.n_udata <= 32)
@@ -171,21 +142,17 @@ impl State {
     }
 
     /// Is every count, and every value in use, within its range?
-    pub fn in_range(self) -> bool
-        ensures { result ≡ state_in_range self }
+    #[tactic(auto, using(crate::proofs::InRange::all_asked), unfolding(crate::specs::Ranges::state_in_range))]
+    pub fn in_range(&self) -> bool
+        ensures { result ≡ state_in_range self.now }
     {
         if !self.head_in_range() {
             return false;
         }
-        let messages = self.outbound_messages;
-        let udata = self.outbound_udata_messages;
-        let acks = self.scheduled_out_acks;
-        let rows = self.link_send_seq;
-        let places = self.receipts;
-        messages_in_range(messages, self.n_messages)
-            & udata_in_range(udata, self.n_udata)
-            & acks_in_range(acks, self.n_acks)
-            & rows_in_range(rows, self.n_rows)
-            & places_in_range(places, 128)
+        messages_in_range(&self.outbound_messages[..self.n_messages])
+            & udata_in_range(&self.outbound_udata_messages[..self.n_udata])
+            & acks_in_range(&self.scheduled_out_acks[..self.n_acks])
+            & rows_in_range(&self.link_send_seq[..self.n_rows])
+            & places_in_range(&self.receipts)
     }
 }

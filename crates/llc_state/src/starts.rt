@@ -1,4 +1,4 @@
-// The states that the link begins with, and the state at another time.
+// The states that the link begins with, and the time of a tick.
 ghost use Rattle.std.specs.Prelude.{◌≡◌};
 ghost use Rattle.llc_state.specs.Progress.{new_progress};
 ghost use Rattle.llc_state.specs.States.{no_entry, no_ack, no_receipt, new_seq, new_state, started_state, at_time};
@@ -100,6 +100,7 @@ impl Progress {
 
 impl Entry {
     /// An entry that is not in use.
+    #[tactic(auto, unfolding(crate::specs::States::no_entry))]
     pub fn empty() -> Entry
         ensures { result ≡ no_entry }
     {
@@ -136,6 +137,7 @@ impl LinkSendSeq {
 
 impl State {
     /// The new state: empty and not started.
+    #[tactic(auto, unfolding(crate::specs::States::empty_state, crate::specs::States::no_entry))]
     pub fn new() -> State
         ensures { result ≡ new_state }
     {
@@ -143,6 +145,7 @@ impl State {
     }
 
     /// The state that a start leaves, whatever was there before.
+    #[tactic(auto, unfolding(crate::specs::States::empty_state, crate::specs::States::no_entry))]
     pub fn start(main_carrier: u16, t251: u16) -> State
         ensures { result ≡ started_state main_carrier t251 }
     {
@@ -163,12 +166,10 @@ impl State {
         }
     }
 
-    /// The state at the time of a tick.
-    pub fn tick_start(self, ts: TdmaTime) -> State
-        ensures { result ≡ at_time self ts }
+    /// The time of a tick.
+    pub fn tick_start(&mut self, ts: TdmaTime)
+        ensures { self.new ≡ at_time self.old ts }
     {
-        let mut next = self;
-        next.dltime = ts;
-        next
+        self.dltime = ts;
     }
 }

@@ -42,7 +42,7 @@ use Rattle.llc_steps.proofs.SaneSetters.{one_more, found_first, behind-first, sa
 slot-in-range : (time : TdmaTime) → (1 ≤ slot_before time) × (slot_before time ≤ 4)
 unfolding slot_before
 slot-in-range time =
-    let r = Time.in-range (plus time (negsuc 1)) (plus-valid time (negsuc 1)) in (r.t-low, r.t-high)
+    let r = Time.in_range (plus time (negsuc 1)) (plus-valid time (negsuc 1)) in (r.t-low, r.t-high)
 
 -- The messages less the one that was acknowledged, or with it moved to the front.
 module _ (s : State) (store : List ℕ) (ok : Sane s store) where

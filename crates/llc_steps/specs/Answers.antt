@@ -1,5 +1,7 @@
 -- What a call answers, and what store and output hold after it.
-use Rattle.std.specs.Prelude.{ℕ, ◌≡◌, List, ◌++◌, length, drop}
+use Rattle.std.specs.Prelude.{ℕ, ◌≡◌, List, ◌++◌, length, drop, Result, Ok, Err}
+use Rattle.questions.specs.declared.Refusal.{Refusal}
+use Rattle.questions.specs.Refusals.{number_of}
 use Rattle.questions.specs.Outcome.{Outcome, accepted, refused}
 use Rattle.llc_rule.specs.Records.{Record, all_bytes}
 use Rattle.llc_state.specs.declared.State.{State}
@@ -17,6 +19,15 @@ effect a b out = record { answer = a; store = b; out = out }
 
 abbrev pub answer : ℕ → State → ℕ → Answer
 answer n s len = record { number = n; state = s; len = len }
+
+-- The answer of a call that left a state and either gave so many bytes of records or was refused; that of one without records.
+abbrev pub answered : State → Result ℕ Refusal → Answer
+answered s (Ok n) = answer 0 s n
+answered s (Err r) = answer (number_of r) s 0
+
+abbrev pub done : Result (Unit {0}) Refusal → Result ℕ Refusal
+done (Ok x) = Ok 0
+done (Err r) = Err r
 
 -- The records from the front of the output on, and then the bytes that it held.
 unfoldable pub laid_out : List Record → List ℕ → List ℕ

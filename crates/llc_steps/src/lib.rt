@@ -2,9 +2,10 @@
 #![tactic(auto)]
 
 ghost use Rattle.std.specs.Prelude.{◌≡◌};
-ghost use Rattle.llc_steps.specs.Answers.{answer};
+ghost use Rattle.llc_steps.specs.Answers.{answered};
 
 use llc_state::State;
+use questions::Refusal;
 
 /// What a call gives: its number, the next state, and how many bytes of the output are its records.
 #[repr(C)]
@@ -19,24 +20,21 @@ pub struct Answer {
 }
 
 impl Answer {
-    // An answer by its parts.
-    fn of(number: u8, state: State, len: usize) -> Answer
-        ensures { result ≡ answer number state len }
+    /// The answer by the state after the call, and by how many bytes its records are or by the question that it fails.
+    pub fn of(state: State, outcome: Result<usize, Refusal>) -> Answer
+        ensures { result ≡ answered state outcome }
     {
-        Answer { number, state, len }
-    }
-
-    /// The answer to a call that was accepted.
-    pub fn accepted(state: State, len: usize) -> Answer
-        ensures { result ≡ answer 0 state len }
-    {
-        Answer::of(0, state, len)
-    }
-
-    /// The answer to a call that a question refused: the state as it was.
-    pub fn refused(number: u8, state: State) -> Answer
-        ensures { result ≡ answer number state 0 }
-    {
-        Answer::of(number, state, 0)
+        match outcome {
+            Ok(len) => Answer {
+                number: 0,
+                state,
+                len,
+            },
+            Err(refusal) => Answer {
+                number: u8::from(refusal),
+                state,
+                len: 0,
+            },
+        }
     }
 }

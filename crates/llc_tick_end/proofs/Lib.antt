@@ -1,14 +1,12 @@
 pub mod Blocked
 pub mod Clearing
 pub mod Compacting
-pub mod Draining
 pub mod Entries
 pub mod FreeMessages
-pub mod Handing
 pub mod InPlace
 pub mod Overdue
+pub mod Records
 pub mod Retransmitting
 pub mod Room
-pub mod SentBytes
 pub mod Walking
 pub mod Whole

@@ -28,18 +28,21 @@ use Rattle.llc_steps.proofs.SaneTickEnd.{retransmissions-sane}
 use Rattle.llc_tick_end.specs.Passes.{sent_bytes_of, reply_bytes_of, udata_bytes_of}
 use Rattle.llc_tick_end.proofs.Room.{tick-room}
 
--- The state and the store of a call that passed question 1.
-pub sane : (s : State) (store : List ℕ) → Lengths s → state_in_range s ≡ true → length store ≡ store_bytes → Sane s (bits store)
-sane s store long range e =
-    record {
-      messages = long.messages;
-      udata = long.udata;
-      acks = long.acks;
-      places = long.places;
-      rows = long.rows;
-      range = range;
-      long = length-bits store ∙ ap (λ (n : ℕ). 8 * n) e;
-    }
+-- What tick_end asks of a state, the bytes of a store and an output.
+abbrev pub Asked : State → List ℕ → List ℕ → Type 0
+Asked s bytes out = record {
+  state_value : state_in_range s ≡ true;
+  store_len : length bytes ≡ store_bytes;
+  output_bytes_in_bounds : output_bytes ≤ length out;
+  started_value : s.started ≡ true;
+}
+
+-- A pass that left a state and wrote bytes.
+abbrev pub Passed : State → List ℕ → List ℕ → ℕ → State → List ℕ → ℕ → Type 0
+Passed next vs out at s m j = record {
+  after : s ≡ next;
+  wrote : Wrote out at vs m j;
+}
 
 -- The bytes that they write.
 tick-bytes :
@@ -50,110 +53,133 @@ tick-bytes :
 unfolding tick_records sent_bytes_of reply_bytes_of udata_bytes_of
 tick-bytes s store = simp all_bytes-append
 
--- What each pass behind the first needs of the state and the output that it finds.
-pub record Second (store : List ℕ) (s : State) (out : List ℕ) (at : ℕ) : Type 0 where
-  pub few : s.n_messages ≤ 64
-  pub entries : all message_in_range (messages_of s) ≡ true
-  pub room : at + length (sent_bytes_of store (first_sendings s).out) ≤ length out
+module _ (s : State) (bytes out : List ℕ) (long : Lengths s) (asked : Asked s bytes out) where
+  abbrev store : List ℕ
+  store = bits bytes
 
-pub record Third (s : State) (out : List ℕ) (at : ℕ) : Type 0 where
-  pub acks : s.n_acks ≤ 64
-  pub room : at + length (reply_bytes_of (acks_of s)) ≤ length out
-
-pub record Fourth (store : List ℕ) (s : State) (out : List ℕ) (at : ℕ) : Type 0 where
-  pub udata : s.n_udata ≤ 32
-  pub entries : all udata_in_range (udata_of s) ≡ true
-  pub room : at + length (udata_bytes_of store (udata_of s)) ≤ length out
-
-module _ (s : State) (store out : List ℕ) (ok : Sane s store) (room : output_bytes ≤ length out) (on : s.started ≡ true) where
-  long : Lengths s
-  long = record { messages = ok.messages; udata = ok.udata; acks = ok.acks; places = ok.places; rows = ok.rows }
+  sane : Sane s store
+  sane =
+      record {
+        messages = long.messages;
+        udata = long.udata;
+        acks = long.acks;
+        places = long.places;
+        rows = long.rows;
+        range = asked.state_value;
+        long = length-bits bytes ∙ ap (λ (n : ℕ). 8 * n) asked.store_len;
+      }
 
   -- Room for all of them.
   sizes :
       length (sent_bytes_of store (retransmissions s).out)
       + (length (sent_bytes_of store (first_sendings (after_retransmissions s)).out) + (length (reply_bytes_of (acks_of s)) + length (udata_bytes_of store (udata_of s))))
       ≤ length out
-  sizes = omega (arith, simp length-append at (ap length (tick-bytes s store)), tick-room s store long ok.range, room)
+  sizes = omega (arith, simp length-append at (ap length (tick-bytes s store)), tick-room s store long asked.state_value, asked.output_bytes_in_bounds)
 
-  pub first-room : length (sent_bytes_of store (retransmissions s).out) ≤ length out
+  -- What each pass asks: the first, and one behind others.
+  pub first-room : 0 + length (sent_bytes_of store (retransmissions s).out) ≤ length out
   first-room = omega (arith, sizes)
 
-  -- Behind the first pass.
   module _
       {s₁ : State} {out₁ : List ℕ} {at₁ : ℕ}
-      (e₁ : s₁ ≡ after_retransmissions s)
-      (w₁ : Wrote out 0 (sent_bytes_of store (retransmissions s).out) out₁ at₁) where
+      (resent : Passed (after_retransmissions s) (sent_bytes_of store (retransmissions s).out) out 0 s₁ out₁ at₁) where
     sent-bytes : sent_bytes_of store (first_sendings s₁).out ≡ sent_bytes_of store (first_sendings (after_retransmissions s)).out
-    sent-bytes = ap (λ (x : State). sent_bytes_of store (first_sendings x).out) e₁
+    sent-bytes = ap (λ (x : State). sent_bytes_of store (first_sendings x).out) resent.after
 
-    pub second : Second store s₁ out₁ at₁
+    pub second : record {
+      messages_len : length s₁.outbound_messages ≡ 64;
+      n_messages_bound : s₁.n_messages ≤ 64;
+      in_range : all message_in_range (messages_of s₁) ≡ true;
+      store_len : length bytes ≡ store_bytes;
+      room : at₁ + length (sent_bytes_of store (first_sendings s₁).out) ≤ length out₁;
+    }
     second =
-        let r = range-tells (after_retransmissions s) (retransmissions-sane s store ok on).range in
-        let count : s₁.n_messages ≡ (after_retransmissions s).n_messages = ap (λ (x : State). x.n_messages) e₁ in
+        let again = retransmissions-sane s store sane asked.started_value in
+        let r = range-tells (after_retransmissions s) again.range in
+        let count : s₁.n_messages ≡ (after_retransmissions s).n_messages = ap (λ (x : State). x.n_messages) resent.after in
         record {
-          few = omega (arith, count, r.head.messages);
-          entries = ap (λ (x : State). all message_in_range (messages_of x)) e₁ ∙ r.messages;
-          room = omega (arith, sizes, w₁.next, as_long w₁, ap length sent-bytes);
+          messages_len = ap (λ (x : State). length x.outbound_messages) resent.after ∙ again.messages;
+          n_messages_bound = omega (arith, count, r.head.messages);
+          in_range = ap (λ (x : State). all message_in_range (messages_of x)) resent.after ∙ r.messages;
+          store_len = asked.store_len;
+          room = omega (arith, sizes, resent.wrote.next, as_long resent.wrote, ap length sent-bytes);
         }
 
-    -- Behind the second.
     module _
         {s₂ : State} {out₂ : List ℕ} {at₂ : ℕ}
-        (e₂ : s₂ ≡ after_sendings s₁)
-        (w₂ : Wrote out₁ at₁ (sent_bytes_of store (first_sendings s₁).out) out₂ at₂) where
+        (sent : Passed (after_sendings s₁) (sent_bytes_of store (first_sendings s₁).out) out₁ at₁ s₂ out₂ at₂) where
       both-are : s₂ ≡ after_sendings (after_retransmissions s)
-      both-are = e₂ ∙ ap (λ (x : State). after_sendings x) e₁
+      both-are = sent.after ∙ ap (λ (x : State). after_sendings x) resent.after
 
       acks-are : reply_bytes_of (acks_of s₂) ≡ reply_bytes_of (acks_of s)
       acks-are = ap (λ (x : State). reply_bytes_of (acks_of x)) both-are
 
-      pub third : Third s₂ out₂ at₂
+      pub third : record {
+        n_acks_bound : s₂.n_acks ≤ 64;
+        room : at₂ + length (reply_bytes_of (acks_of s₂)) ≤ length out₂;
+      }
       third =
           let count : s₂.n_acks ≡ s.n_acks = ap (λ (x : State). x.n_acks) both-are in
           record {
-            acks = omega (arith, count, (range-tells s ok.range).head.acks);
-            room = omega (arith, sizes, w₁.next, w₂.next, as_long w₁, as_long w₂, ap length sent-bytes, ap length acks-are);
+            n_acks_bound = omega (arith, count, (range-tells s asked.state_value).head.acks);
+            room =
+                omega (arith, sizes, resent.wrote.next, sent.wrote.next, as_long resent.wrote, as_long sent.wrote, ap length sent-bytes, ap length acks-are);
           }
 
-      -- Behind the third.
       module _
           {s₃ : State} {out₃ : List ℕ} {at₃ : ℕ}
-          (e₃ : s₃ ≡ with_acks s₂ [])
-          (w₃ : Wrote out₂ at₂ (reply_bytes_of (acks_of s₂)) out₃ at₃) where
+          (replied : Passed (with_acks s₂ []) (reply_bytes_of (acks_of s₂)) out₂ at₂ s₃ out₃ at₃) where
         three-are : s₃ ≡ with_acks (after_sendings (after_retransmissions s)) []
-        three-are = e₃ ∙ ap (λ (x : State). with_acks x []) both-are
+        three-are = replied.after ∙ ap (λ (x : State). with_acks x []) both-are
 
         udata-are : udata_bytes_of store (udata_of s₃) ≡ udata_bytes_of store (udata_of s)
         udata-are = ap (λ (x : State). udata_bytes_of store (udata_of x)) three-are
 
-        pub fourth : Fourth store s₃ out₃ at₃
+        pub fourth : record {
+          n_udata_bound : s₃.n_udata ≤ 32;
+          in_range : all udata_in_range (udata_of s₃) ≡ true;
+          store_len : length bytes ≡ store_bytes;
+          room : at₃ + length (udata_bytes_of store (udata_of s₃)) ≤ length out₃;
+        }
         fourth =
-            let r = range-tells s ok.range in
+            let r = range-tells s asked.state_value in
             let count : s₃.n_udata ≡ s.n_udata = ap (λ (x : State). x.n_udata) three-are in
             record {
-              udata = omega (arith, count, r.head.udata);
-              entries = ap (λ (x : State). all udata_in_range (udata_of x)) three-are ∙ r.udata;
+              n_udata_bound = omega (arith, count, r.head.udata);
+              in_range = ap (λ (x : State). all udata_in_range (udata_of x)) three-are ∙ r.udata;
+              store_len = asked.store_len;
               room =
-                  omega (arith, sizes, w₁.next, w₂.next, w₃.next, as_long w₁, as_long w₂, as_long w₃, ap length sent-bytes, ap length acks-are, ap length udata-are);
+                  omega (
+                    arith,
+                    sizes,
+                    resent.wrote.next,
+                    sent.wrote.next,
+                    replied.wrote.next,
+                    as_long resent.wrote,
+                    as_long sent.wrote,
+                    as_long replied.wrote,
+                    ap length sent-bytes,
+                    ap length acks-are,
+                    ap length udata-are,
+                  );
             }
 
         -- The state, the bytes of the output and the place behind them are those of a tick end.
         pub tick-end-is :
             {s₄ : State} {out₄ : List ℕ} {at₄ : ℕ}
-            → s₄ ≡ with_udata s₃ []
-            → Wrote out₃ at₃ (udata_bytes_of store (udata_of s₃)) out₄ at₄
+            → Passed (with_udata s₃ []) (udata_bytes_of store (udata_of s₃)) out₃ at₃ s₄ out₄ at₄
             → effect (answer 0 s₄ at₄) store out₄ ≡ delivered s store out (acts tick_end s store)
         unfolding acts laid_out ticked
-        tick-end-is {s₄} {out₄} {at₄} e₄ w₄ =
+        tick-end-is {s₄} {out₄} {at₄} last =
             let vs : List ℕ = all_bytes (tick_records s store) in
             let w : Wrote out 0 vs out₄ at₄ =
-            same_bytes (sym (tick-bytes s store)) (w₁ ⨾ (same_bytes sent-bytes w₂ ⨾ (same_bytes acks-are w₃ ⨾ same_bytes udata-are w₄))) in
-            let state : s₄ ≡ ticked s = e₄ ∙ ap (λ (x : State). with_udata x []) three-are in
+            same_bytes (sym (tick-bytes s store))
+            (resent.wrote ⨾ (same_bytes sent-bytes sent.wrote ⨾ (same_bytes acks-are replied.wrote ⨾ same_bytes udata-are last.wrote))) in
+            let state : s₄ ≡ ticked s = last.after ∙ ap (λ (x : State). with_udata x []) three-are in
             let behind : 0 + length vs ≡ length vs = zero-add (length vs) in
-            let bytes : out₄ ≡ vs ++ drop (length vs) out =
+            let left : out₄ ≡ vs ++ drop (length vs) out =
             w.holds
-            ∙ write-is out 0 vs (omega (arith, tick-room s store long ok.range, room))
+            ∙ write-is out 0 vs (omega (arith, tick-room s store long asked.state_value, asked.output_bytes_in_bounds))
             ∙ ap (λ (k : ℕ). vs ++ drop k out) behind in
             λ i.
-            record { answer = record { number = 0; state = state i; len = (w.next ∙ behind) i }; store = store; out = bytes i }
+            record { answer = record { number = 0; state = state i; len = (w.next ∙ behind) i }; store = store; out = left i }

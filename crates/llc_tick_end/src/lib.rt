@@ -9,11 +9,3 @@ mod retransmissions;
 mod udata;
 
 pub use four_passes::tick_end;
-use llc_state::State;
-
-// A state after a pass, and the place behind what the pass wrote.
-#[derive(Clone, Copy)]
-struct Passed {
-    state: State,
-    at: usize,
-}

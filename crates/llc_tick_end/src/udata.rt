@@ -8,32 +8,28 @@ ghost use Rattle.llc_state.specs.Ranges.{udata_in_range};
 ghost use Rattle.llc_steps.specs.States.{udata_of, with_udata};
 ghost use Rattle.llc_tick_end.specs.Passes.{udata_bytes_of};
 
-use crate::Passed;
 use crate::messages::put_message;
 use llc_state::{Entry, State};
 
-// Goes through the unacknowledged messages, the oldest first, and leaves none.
+// Hands down the unacknowledged messages, the oldest first, and leaves none.
 pub(crate) fn submit_udata_msgs_to_umac(
-    mut state: State,
+    state: &mut State,
     store: &[u8],
     out: &mut [u8],
-    at: usize,
-) -> Passed
-    requires n_udata_bound { state.n_udata ≤ 32 }
-    requires state_value { all udata_in_range (udata_of state) ≡ true }
+    mut at: usize,
+) -> usize
+    requires n_udata_bound { state.old.n_udata ≤ 32 }
+    requires in_range { all udata_in_range (udata_of state.old) ≡ true }
     requires store_len { length store.now ≡ store_bytes }
-    requires state_in_bounds { at + length (udata_bytes_of (bits store.now) (udata_of state)) ≤ length out.old }
-    ensures state_value_2 { result.state ≡ with_udata state [] }
-    ensures wrote { Wrote out.old at (udata_bytes_of (bits store.now) (udata_of state)) out.new result.at }
+    requires room { at + length (udata_bytes_of (bits store.now) (udata_of state.old)) ≤ length out.old }
+    ensures after { state.new ≡ with_udata state.old [] }
+    ensures wrote { Wrote out.old at (udata_bytes_of (bits store.now) (udata_of state.old)) out.new result }
 {
-    let n = state.n_udata;
-    let mut p = at;
-    let mut i = 0;
-    while i < n {
-        p = put_message(out, p, 3, state.outbound_udata_messages[i], store);
-        state.outbound_udata_messages[i] = Entry::empty();
-        i += 1;
+    let messages = &mut state.outbound_udata_messages[..state.n_udata];
+    for message in messages.iter() {
+        at = put_message(out, at, 3, message, store);
     }
+    messages.fill(Entry::empty());
     state.n_udata = 0;
-    Passed { state, at: p }
+    at
 }

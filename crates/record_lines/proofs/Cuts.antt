@@ -1,20 +1,20 @@
 -- Laws of cutting bytes into records.
-use Prim.Native.Nat.{ℕ, zero, suc, ◌+◌, ◌*◌, ◌≤◌, ◌<◌, min}
-use native.Mathlib.Omega.{arith}
-use mathlib.Core.Path.{◌≡◌, ◌∙◌, refl, sym, ap, ap₂}
+use Prim.Native.Nat.{ℕ, zero, suc, ◌+◌, ◌-◌, ◌*◌, ◌≤◌, ◌<◌, min}
+use native.Mathlib.Omega.{arith, min_cases}
+use native.Mathlib.Numerals.{one-add}
+use mathlib.Core.Path.{◌≡◌, ◌∙◌, refl, sym, ap}
 use mathlib.Core.Logic.{◌≢◌}
 use mathlib.Core.Bool.{true, false}
 use mathlib.Core.List.{List, [], ◌∷◌, ◌++◌, append_assoc, append-nil}
 use borrow.Author.Tests.{eq-eqb, ne_eqb}
 use lib.Dec.{eqb}
-use lib.ListN.{length, get_or, take, drop}
-use lib.Seq.{slice, slice_empty}
+use lib.ListN.{length, get_or, take, drop, length-drop, drop_of_length-le}
+use lib.Seq.{take-length, take_all, take-add, drop-cons, drop-drop}
 use Rattle.lists.proofs.Choices.{by-choice}
 use Rattle.llc_rule.specs.Calls.{from_bytes}
 use Rattle.hex_lines.specs.Lines.{on_first}
 use Rattle.record_lines.specs.Split.{behind_tag, cut, split}
 use Rattle.record_lines.specs.Ends.{Ends}
-use Rattle.record_lines.proofs.Parts.{slice_first, slice_front, slice_back, slice-join}
 
 -- Bytes in front of the first piece.
 abbrev pub before : List ℕ → List (List ℕ) → List (List ℕ)
@@ -76,86 +76,80 @@ cut-none = refl
 
 -- The field's length, where its two bytes are there.
 pub value_there :
-    (l : List ℕ) (f t : ℕ)
-    → f + 3 ≤ t
-    → t ≤ length l
-    → behind_tag (slice (f + 1) t l) ≡ 2 + (256 * get_or l (f + 1) 0 + get_or l (f + 2) 0)
+    (l : List ℕ)
+    → 3 ≤ length l
+    → behind_tag (drop 1 l) ≡ 2 + (256 * get_or l 1 0 + get_or l 2 0)
 unfolding from_bytes
-value_there l f t h k =
-    let e : f + 1 + 1 ≡ f + 2 = omega arith in
-    rw (slice_first (f + 1) t l (omega arith) k, e, slice_first (f + 2) t l (omega arith) k) (omega arith)
+value_there [] h = absurd (omega arith)
+value_there (a ∷ []) h = absurd (omega arith)
+value_there (a ∷ (b ∷ [])) h = absurd (omega arith)
+value_there (a ∷ (b ∷ (c ∷ l))) h = omega arith
 
--- The place behind the field at f.
-abbrev behind_field : List ℕ → ℕ → ℕ → ℕ
-behind_field l f t = min (f + 1 + behind_tag (slice (f + 1) t l)) t
+-- The place behind the field that l begins with.
+abbrev behind_field : List ℕ → ℕ
+behind_field l = min (1 + behind_tag (drop 1 l)) (length l)
 
-split-field :
-    (l : List ℕ) (f t e : ℕ)
-    → f < t
-    → t ≤ length l
-    → e ≡ behind_field l f t
-    → split (slice f t l) ≡ before (slice f e l) (cut 0 (slice e t l))
-split-field l f t e h k n =
-    let size : ℕ = behind_tag (slice (f + 1) t l) in
-    rw (slice_first f t l h k, slice_first f e l (omega arith) (omega arith), n)
-    (split-on (get_or l f 0) (slice (f + 1) t l)
-    ∙ ap₂ (λ (p q : List ℕ). before (get_or l f 0 ∷ p) (cut 0 q)) (slice_front size (f + 1) t l) (slice_back size (f + 1) t l))
+-- The first n elements, or all if there are fewer, and those behind them.
+front : (n : ℕ) (l : List ℕ) → take (min n (length l)) l ≡ take n l
+front n l =
+    min_cases n (length l) (take (min n (length l)) l ≡ take n l)
+    (λ h e. rw e)
+    (λ h e. rw e (take-length l ∙ sym (take_all n l h)))
+
+back : (n : ℕ) (l : List ℕ) → drop (min n (length l)) l ≡ drop n l
+back n l =
+    min_cases n (length l) (drop (min n (length l)) l ≡ drop n l)
+    (λ h e. rw e)
+    (λ h e. rw e (drop_of_length-le l {i = length l} (omega arith) ∙ sym (drop_of_length-le l {i = n} h)))
+
+split-field : (l : List ℕ) (n : ℕ) → 0 < length l → n ≡ behind_field l → split l ≡ before (take n l) (cut 0 (drop n l))
+split-field [] n h e = absurd (omega arith)
+split-field (tag ∷ bs) n h e =
+    rw (e, front (1 + behind_tag bs) (tag ∷ bs), back (1 + behind_tag bs) (tag ∷ bs), one-add (behind_tag bs)) (split-on tag bs)
 
 -- The place behind a record ------------------------------------------------------------------------------------------------
 
--- On the way from f: the fields before i are the record's.
-pub record Under (l : List ℕ) (f t i : ℕ) : Type 0 where
-  pub later : f < i
-  pub within : i ≤ t
-  pub cuts : split (slice f t l) ≡ before (slice f i l) (cut 0 (slice i t l))
+-- The fields before i are the first record's.
+pub record Under (l : List ℕ) (i : ℕ) : Type 0 where
+  pub later : 0 < i
+  pub within : i ≤ length l
+  pub cuts : split l ≡ before (take i l) (cut 0 (drop i l))
 
-pub first_field :
-    (l : List ℕ) (f t e : ℕ)
-    → f < t
-    → t ≤ length l
-    → e ≡ behind_field l f t
-    → Under l f t e
-first_field l f t e h k n = record { later = omega arith; within = omega arith; cuts = split-field l f t e h k n }
+pub first_field : (l : List ℕ) (n : ℕ) → 0 < length l → n ≡ behind_field l → Under l n
+first_field l n h e = record { later = omega arith; within = omega arith; cuts = split-field l n h e }
 
 pub next_field :
-    {l : List ℕ} {f t i : ℕ} (e : ℕ)
-    → Under l f t i
-    → i < t
-    → t ≤ length l
+    {l : List ℕ} {i : ℕ} (n : ℕ)
+    → Under l i
+    → i < length l
     → get_or l i 0 ≢ 0x01
-    → e ≡ behind_field l i t
-    → Under l f t e
-next_field {l} {f} {t} {i} e u h k s n =
-    let same : cut 0 (slice i t l) ≡ split (slice i t l) =
-    rw (slice_first i t l h k) (cut-same (get_or l i 0) (slice (i + 1) t l) (ne_eqb (get_or l i 0) 0x01 s)) in
+    → n ≡ behind_field (drop i l)
+    → Under l (i + n)
+next_field {l} {i} n u h s e =
+    let long : length (drop i l) ≡ length l - i = length-drop i l in
+    let same : cut 0 (drop i l) ≡ split (drop i l) =
+    rw (drop-cons l i 0 h) (cut-same (get_or l i 0) (drop (suc i) l) (ne_eqb (get_or l i 0) 0x01 s)) in
     record {
       later = omega (arith, u.later);
       within = omega arith;
       cuts =
           u.cuts
-          ∙ ap (before (slice f i l)) (same ∙ split-field l i t e h k n)
-          ∙ before-before (slice f i l) (slice i e l) (cut 0 (slice e t l))
-          ∙ ap (λ (p : List ℕ). before p (cut 0 (slice e t l)))
-          (slice-join f i e l (omega (arith, u.later)) (omega arith) (omega arith));
+          ∙ ap (before (take i l)) (same ∙ split-field (drop i l) n (omega arith) e)
+          ∙ before-before (take i l) (take n (drop i l)) (cut 0 (drop n (drop i l)))
+          ∙ rw (take-add i n l, drop-drop n i l);
     }
 
-ended : {l : List ℕ} {f t i : ℕ} → Under l f t i → cut 0 (slice i t l) ≡ [] ∷ split (slice i t l) → Ends l f t i
-ended {l} {f} {t} {i} u e =
+ended : {l : List ℕ} {i : ℕ} → Under l i → cut 0 (drop i l) ≡ [] ∷ split (drop i l) → Ends l i
+ended {l} {i} u e =
     record {
       later = u.later;
       within = u.within;
-      cuts = u.cuts ∙ ap (before (slice f i l)) e ∙ rw (append-nil (slice f i l));
+      cuts = u.cuts ∙ ap (before (take i l)) e ∙ rw (append-nil (take i l));
     }
 
-pub next-record :
-    {l : List ℕ} {f t i : ℕ}
-    → Under l f t i
-    → i < t
-    → t ≤ length l
-    → get_or l i 0 ≡ 0x01
-    → Ends l f t i
-next-record {l} {f} {t} {i} u h k s =
-    ended u (rw (slice_first i t l h k) (cut-next (get_or l i 0) (slice (i + 1) t l) (eq-eqb (get_or l i 0) 0x01 s)))
+pub next-record : {l : List ℕ} {i : ℕ} → Under l i → i < length l → get_or l i 0 ≡ 0x01 → Ends l i
+next-record {l} {i} u h s =
+    ended u (rw (drop-cons l i 0 h) (cut-next (get_or l i 0) (drop (suc i) l) (eq-eqb (get_or l i 0) 0x01 s)))
 
-pub last-record : {l : List ℕ} {f t i : ℕ} → Under l f t i → i ≡ t → Ends l f t t
-last-record {l} {f} {t} {i} u e = ended (rw e at u) (rw (slice_empty t l) cut-none)
+pub last-record : {l : List ℕ} {i : ℕ} → Under l i → length l ≤ i → Ends l i
+last-record {l} {i} u h = ended u (rw (drop_of_length-le l h) cut-none)

@@ -1,4 +1,3 @@
-pub mod Parts
 pub mod Cuts
 pub mod Lines
 pub mod Records

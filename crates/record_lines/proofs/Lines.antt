@@ -1,10 +1,10 @@
 -- Records written as lines, one behind the other.
-use Prim.Native.Nat.{ℕ, ◌+◌, ◌*◌, ◌-◌, ◌≤◌}
+use Prim.Native.Nat.{ℕ, ◌+◌, ◌*◌, ◌≤◌}
 use native.Mathlib.Omega.{arith}
 use mathlib.Core.Path.{◌≡◌, ◌∙◌, refl, sym, ap}
 use mathlib.Core.List.{List, [], ◌∷◌, ◌++◌, append_assoc, append-nil}
-use lib.ListN.{length, take}
-use lib.Seq.{slice, slice_empty}
+use lib.ListN.{length, take, drop, length-drop}
+use lib.Seq.{length-take-le}
 use Rattle.lists.specs.Writes.{Wrote}
 use Rattle.lists.proofs.Writes.{◌⨾◌, as_long, wrote_none}
 use Rattle.hex_lines.specs.Lines.{line_end, hex_of}
@@ -12,56 +12,47 @@ use Rattle.hex_lines.proofs.Writes.{line-length}
 use Rattle.record_lines.specs.Split.{split, in_lines, lines_of_records}
 use Rattle.record_lines.specs.Ends.{Ends}
 
--- The lines of the records before place i are written, vs, and those of the rest are left.
-pub record Written (l : List ℕ) (at : ℕ) (records : List ℕ) (len : ℕ) (m : List ℕ) (i p : ℕ) : Type 0 where
-  pub within : i ≤ len
-  pub room : p + 3 * (len - i) ≤ at + 3 * len
+-- The lines of some of the records are written, vs, and those of the rest are left.
+pub record Written (l : List ℕ) (at : ℕ) (records : List ℕ) (m rest : List ℕ) (p : ℕ) : Type 0 where
+  pub room : p + 3 * length rest ≤ at + 3 * length records
   pub vs : List ℕ
   pub wrote : Wrote l at vs m p
-  pub left : lines_of_records (take len records) ≡ vs ++ lines_of_records (slice i len records)
+  pub left : lines_of_records records ≡ vs ++ lines_of_records rest
 
-pub none_yet : (l : List ℕ) (at : ℕ) (records : List ℕ) (len : ℕ) → Written l at records len l 0 at
-none_yet l at records len =
-    record {
-      within = omega arith;
-      room = omega arith;
-      vs = [];
-      wrote = wrote_none l at;
-      left = refl;
-    }
+pub none_yet : (l : List ℕ) (at : ℕ) (records : List ℕ) → Written l at records l records at
+none_yet l at records = record { room = omega arith; vs = []; wrote = wrote_none l at; left = refl }
 
-pub written-long : {l : List ℕ} {at : ℕ} {records : List ℕ} {len : ℕ} {m : List ℕ} {i p : ℕ} → Written l at records len m i p → length m ≡ length l
-written-long w = as_long w.wrote
+pub written_long : {l : List ℕ} {at : ℕ} {records m rest : List ℕ} {p : ℕ} → Written l at records m rest p → length m ≡ length l
+written_long w = as_long w.wrote
 
 pub one_more :
-    {l : List ℕ} {at : ℕ} {records : List ℕ} {len : ℕ} {m k : List ℕ} {i p e q : ℕ}
-    → Written l at records len m i p
-    → len ≤ length records
-    → Ends records i len e
-    → Wrote m p (hex_of (slice i e records) ++ (line_end ∷ [])) k q
-    → Written l at records len k e q
+    {l : List ℕ} {at : ℕ} {records m k rest line behind : List ℕ} {p e q : ℕ}
+    → Written l at records m rest p
+    → Ends rest e
+    → line ≡ take e rest
+    → behind ≡ drop e rest
+    → Wrote m p (hex_of line ++ (line_end ∷ [])) k q
+    → Written l at records k behind q
 unfolding in_lines
-one_more {l} {at} {records} {len} {m} {k} {i} {p} {e} {q} w h d v =
-    let line : List ℕ = hex_of (slice i e records) ++ (line_end ∷ []) in
-    let within : e ≤ len = d.within in
+one_more {l} {at} {records} {m} {k} {rest} {line} {behind} {p} {e} {q} w d f b v =
+    let text : List ℕ = hex_of (take e rest) ++ (line_end ∷ []) in
+    let front : length (take e rest) ≡ e = length-take-le e rest d.within in
+    let u : Wrote m p text k q = rw f at v in
     record {
-      within = within;
-      room = omega (arith, w.room, v.next, line-length records i e (omega arith), d.later);
-      vs = w.vs ++ line;
-      wrote = w.wrote ⨾ v;
+      room = rw b (omega (arith, w.room, u.next, line-length (take e rest), length-drop e rest, d.later, d.within));
+      vs = w.vs ++ text;
+      wrote = w.wrote ⨾ u;
       left =
           w.left
           ∙ ap (λ (rs : List (List ℕ)). w.vs ++ in_lines rs) d.cuts
-          ∙ sym (append_assoc w.vs line (lines_of_records (slice e len records)));
+          ∙ rw b (sym (append_assoc w.vs text (lines_of_records (drop e rest))));
     }
 
 pub all-written :
-    {l : List ℕ} {at : ℕ} {records : List ℕ} {len : ℕ} {m : List ℕ} {i p : ℕ}
-    → Written l at records len m i p
-    → i ≡ len
-    → Wrote l at (lines_of_records (take len records)) m p
+    {l : List ℕ} {at : ℕ} {records m rest : List ℕ} {p : ℕ}
+    → Written l at records m rest p
+    → length rest ≡ 0
+    → Wrote l at (lines_of_records records) m p
 unfolding in_lines split
-all-written {l} {at} {records} {len} {m} {i} {p} w e =
-    let whole : lines_of_records (take len records) ≡ w.vs =
-    w.left ∙ rw (e, slice_empty len records) (append-nil w.vs) in
-    rw whole w.wrote
+all-written {rest = []} w e = let whole = w.left ∙ append-nil w.vs in rw whole w.wrote
+all-written {rest = b ∷ bs} w e = absurd (omega arith)

@@ -1,10 +1,9 @@
 -- Where a record ends.
-use Rattle.std.specs.Prelude.{ℕ, ◌≤◌, ◌<◌, ◌≡◌, List, ◌∷◌}
-use Rattle.std.proofs.Math.Seq.{slice}
+use Rattle.std.specs.Prelude.{ℕ, ◌≤◌, ◌<◌, ◌≡◌, List, ◌∷◌, length, take, drop}
 use Rattle.record_lines.specs.Split.{split}
 
--- Of the elements of l from f up to t, the first record ends before place e.
-pub record Ends (l : List ℕ) (f t e : ℕ) : Type 0 where
-  pub later : f < e
-  pub within : e ≤ t
-  pub cuts : split (slice f t l) ≡ slice f e l ∷ split (slice e t l)
+-- The first record of the bytes l ends before place e.
+pub record Ends (l : List ℕ) (e : ℕ) : Type 0 where
+  pub later : 0 < e
+  pub within : e ≤ length l
+  pub cuts : split l ≡ take e l ∷ split (drop e l)

@@ -2,8 +2,7 @@
 // as lines of hexadecimal digits.
 #![tactic(auto)]
 
-ghost use Rattle.std.specs.Prelude.{◌+◌, ◌*◌, ◌≤◌, ◌<◌, min, ◌≡◌, length, take};
-ghost use Rattle.std.proofs.Math.Seq.{slice};
+ghost use Rattle.std.specs.Prelude.{◌+◌, ◌*◌, ◌≤◌, ◌<◌, min, ◌≡◌, length, drop};
 ghost use Rattle.lists.specs.Writes.{Wrote};
 ghost use Rattle.record_lines.specs.Split.{behind_tag, lines_of_records};
 ghost use Rattle.record_lines.specs.Ends.{Ends};
@@ -11,60 +10,44 @@ ghost use Rattle.record_lines.specs.Ends.{Ends};
 // The tag of a record's first field, its kind.
 const KIND: u8 = 0x01;
 
-// The length of a field's value.
-fn value_len(high: u8, low: u8) -> usize
-    ensures value { result ≡ 256 * high + low }
-    ensures upper_bound { result < 65536 }
+// The place behind the field that bytes begin with, or their end if it is cut short there.
+#[tactic(auto, using(crate::proofs::Cuts::value_there))]
+fn field_end(bytes: &[u8]) -> usize
+    requires { 0 < length bytes.now }
+    ensures { result ≡ min (1 + behind_tag (drop 1 bytes.now)) (length bytes.now) }
 {
-    256 * high as usize + low as usize
+    match bytes {
+        [_, high, low, ..] => bytes.len().min(3 + 256 * *high as usize + *low as usize),
+        _ => bytes.len(),
+    }
 }
 
-// The place behind the field that begins at a place, or len if the field is cut short there.
-fn field_end(records: &[u8], at: usize, len: usize) -> usize
-    requires at_lt_len { at < len }
-    requires len_in_bounds { len ≤ length records.now }
-    ensures { result ≡ min (at + 1 + behind_tag (slice (at + 1) len records.now)) len }
+/// The place behind the record that bytes begin with.
+pub fn record_end(records: &[u8]) -> usize
+    requires { 0 < length records.now }
+    ensures { Ends records.now result }
 {
-    let left = len - at;
-    if left < 3 {
-        return len;
+    let mut end = field_end(records);
+    // Each turn goes on by a field's length.
+    while end < records.len() && records[end] != KIND {
+        end += field_end(&records[end..]);
     }
-    let size = 3 + value_len(records[at + 1], records[at + 2]);
-    if left < size {
-        return len;
-    }
-    at + size
+    end
 }
 
-/// The place behind the record that begins at a place of the first len bytes.
-pub fn record_end(records: &[u8], at: usize, len: usize) -> usize
-    requires at_lt_len { at < len }
-    requires len_in_bounds { len ≤ length records.now }
-    ensures { Ends records.now at len result }
+/// Writes records as a line for each, and gives the place behind them.
+pub fn put_records(text: &mut [u8], at: usize, records: &[u8]) -> usize
+    requires { at + 3 * length records.now ≤ length text.old }
+    ensures wrote { Wrote text.old at (lines_of_records records.now) text.new result }
+    ensures upper_bound { result ≤ at + 3 * length records.now }
 {
-    let mut i = field_end(records, at, len);
-    while i < len {
-        if records[i] == KIND {
-            return i;
-        }
-        i = field_end(records, i, len);
-    }
-    len
-}
-
-/// Writes the first len bytes of records as a line for each record, and gives the place behind them.
-pub fn put_records(text: &mut [u8], at: usize, records: &[u8], len: usize) -> usize
-    requires len_in_bounds { len ≤ length records.now }
-    requires len_in_bounds_2 { at + 3 * len ≤ length text.old }
-    ensures wrote { Wrote text.old at (lines_of_records (take len records.now)) text.new result }
-    ensures upper_bound { result ≤ at + 3 * len }
-{
-    let mut i = 0;
+    let mut rest = records;
     let mut p = at;
-    while i < len {
-        let end = record_end(records, i, len);
-        p = hex_lines::put_line(text, p, records, i, end);
-        i = end;
+    // Each turn takes a record, so what is left shrinks by its length.
+    while !rest.is_empty() {
+        let (record, behind) = rest.split_at(record_end(rest));
+        p = hex_lines::put_line(text, p, record);
+        rest = behind;
     }
     p
 }

@@ -5,54 +5,35 @@ use crate::answers::answer;
 use crate::output::write_out;
 use hex_lines::{Line, gather};
 use llc_state::State;
-use std::io::Stdout;
+use std::io::{self, Stdout};
 
-// What is under way between two chunks.
-#[derive(Clone, Copy)]
-pub(crate) struct Progress {
-    pub state: State,
-    pub line: Line,
-    // Is there more to read, and could all text be written?
-    pub open: bool,
-}
-
-// Answers the lines that end in a chunk, and writes the answers.
+// Answers the lines that end in a chunk, writes the answers, and gives the line that is under way behind it.
 pub(crate) fn answer_lines(
     to: Stdout,
-    progress: Progress,
+    state: &mut State,
+    line: Line,
     chunk: &[u8],
     bytes: &mut [u8],
     store: &mut [u8],
     out: &mut [u8],
     text: &mut [u8],
-) -> Progress
+) -> io::Result<Line>
     requires in_bounds { 2048 ≤ length bytes.old }
     requires out_in_bounds { 4 + 3 * length out.old ≤ length text.old }
 {
-    let mut state = progress.state;
-    let mut line = progress.line;
+    let mut line = line;
     let mut at = 0;
     let mut i = 0;
+    // Each turn goes on by a line's length.
     while i < chunk.len() {
-        let g = gather(line, bytes, chunk, i);
-        let so_far = g.line;
-        line = so_far;
-        i = g.next;
-        if g.ended {
-            let a = answer(to, state, line, bytes, store, out, text, at);
-            let next = a.state;
-            state = next;
+        let gathered = gather(line, bytes, chunk, i);
+        line = gathered.line;
+        i = gathered.next;
+        if gathered.ended {
+            at = answer(to, state, line, bytes, store, out, text, at)?;
             line = Line::new();
-            at = a.at;
-            if !a.open {
-                return Progress {
-                    state,
-                    line,
-                    open: false,
-                };
-            }
         }
     }
-    let open = write_out(to, text, at);
-    Progress { state, line, open }
+    write_out(to, text, at)?;
+    Ok(line)
 }

@@ -8,13 +8,17 @@ mod chunks;
 mod input;
 mod output;
 
+use buffers::{CALL, CHUNK, TEXT, zeros};
+use llc::{OUTPUT, STORE};
+
 fn main(rt: HostRuntime) {
-    let mut chunk = buffers::chunk();
-    let mut bytes = buffers::bytes();
-    let mut store = buffers::store();
-    let mut out = buffers::out();
-    let mut text = buffers::text();
-    input::run(
+    let mut chunk = zeros::<CHUNK>();
+    let mut bytes = zeros::<CALL>();
+    let mut store = zeros::<STORE>();
+    let mut out = zeros::<OUTPUT>();
+    let mut text = zeros::<TEXT>();
+    // Where an answer cannot be written the run ends.
+    let _ = input::run(
         rt.stdin(),
         rt.stdout(),
         &mut chunk,

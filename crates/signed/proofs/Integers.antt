@@ -7,9 +7,9 @@ use mathlib.Core.Bool.{Bool, true, false, cond}
 use borrow.Author.Tests.{ltb-true, ltb-false}
 use lib.Dec.{T, ltb}
 use lib.Signed.{mag, non_neg}
-use lib.IntN.{ℤ, pos, negsuc, nat_abs, sub_ℕ, neg_ℤ, ◌+ℤ◌, ◌-ℤ◌, ◌*ℤ◌}
-use mir.Syntax.{Width, w32, w64}
-use mir.Val.{bits, Fits, SFits, to_z, of_z}
+use lib.IntN.{ℤ, pos, negsuc, nat_abs, sub_ℕ, neg_ℤ, ◌-ℤ◌, ◌*ℤ◌}
+use mir.Syntax.{Width, w32}
+use mir.Val.{bits, Fits, to_z, of_z}
 use mir.Facts.{to_z-of_z}
 
 -- What holds of a - b, shown where b is at most a and where a is below b.
@@ -35,34 +35,12 @@ pub neg-times : (q w : ℕ) → neg_ℤ (pos q) *ℤ pos w ≡ neg_ℤ (pos (q *
 neg-times zero w = rw zero-mul
 neg-times (suc q) w = refl
 
--- k more than a - b.
-pub sub-add : (a b k : ℕ) → sub_ℕ a b +ℤ pos k ≡ sub_ℕ (a + k) b
-sub-add a b k =
-    by_order (λ z. z +ℤ pos k ≡ sub_ℕ (a + k) b) a b
-    (λ h. by_order (λ z. pos (a - b + k) ≡ z) (a + k) b (λ l. ap pos (omega arith)) (λ l. absurd (omega arith)))
-    (λ h.
-    by_order (λ z. z ≡ sub_ℕ (a + k) b) k (suc (b - suc a))
-    (λ l. by_order (λ z. pos (k - suc (b - suc a)) ≡ z) (a + k) b (λ m. ap pos (omega arith)) (λ m. absurd (omega arith)))
-    (λ l. by_order (λ z. negsuc (suc (b - suc a) - suc k) ≡ z) (a + k) b (λ m. absurd (omega arith)) (λ m. ap negsuc (omega arith))))
-
 pub sub-ge : (a b : ℕ) → b ≤ a → sub_ℕ a b ≡ pos (a - b)
 sub-ge a b h = by_order (λ z. z ≡ pos (a - b)) a b (λ _. refl) (λ l. absurd (omega arith))
-
--- The difference of two numbers without sign below 2 ^ 31 is an i32.
-pub less-fits : (a b : ℕ) → a < 2 ^ 31 → b < 2 ^ 31 → SFits w32 (sub_ℕ a b)
-less-fits a b ha hb =
-    by_order (λ z. SFits w32 z) a b (λ h. record { sfits = omega arith }) (λ h. record { sfits = omega arith })
 
 -- An i32 read back from its bits.
 pub same-i32 : (z : ℤ) → mag z < 2 ^ 31 → to_z w32 (of_z w32 z) ≡ z
 same-i32 z h = to_z-of_z {w = w32} (record { sfits = h })
-
-pub widen : {n : ℤ} → SFits w32 n → SFits w64 n
-widen f = record { sfits = omega (arith, f.sfits) }
-
--- An i32 read from its bits as an i64.
-pub widened : {n : ℤ} → SFits w32 n → to_z w64 (of_z w64 (to_z w32 (of_z w32 n))) ≡ n
-widened f = rw (to_z-of_z f) (to_z-of_z (widen f))
 
 -- z is a number without sign, below b.
 pub record Natural (z : ℤ) (b : ℕ) : Type 0 where
@@ -70,19 +48,6 @@ pub record Natural (z : ℤ) (b : ℕ) : Type 0 where
   pub is : z ≡ pos by
   pub below : by < b
 
--- One below 2 ^ 32 is an i64, and one below 2 ^ bits w can be cast to an unsigned type of width w.
-pub natural-fits : {z : ℤ} → Natural z (2 ^ 32) → SFits w64 z
-natural-fits n = rw n.is (record { sfits = omega (arith, n.below) })
-
+-- One below 2 ^ bits w can be cast to an unsigned type of width w.
 pub natural-cast : (w : Width) {z : ℤ} {b : ℕ} → Natural z b → b ≤ 2 ^ bits w → T (non_neg z) × Fits w (nat_abs z)
 natural-cast w n h = rw n.is (tt, record { fits = lt_of_lt_of_le n.below h })
-
--- An i32 and 2 ^ 31 more is a number without sign.
-pub raise : (n : ℤ) → SFits w32 n → Natural (n +ℤ pos 2147483648) (2 ^ 32)
-raise (pos a) f = record { by = a + 2147483648; is = refl; below = omega (arith, f.sfits) }
-raise (negsuc a) f =
-    record {
-      by = 2147483648 - suc a;
-      is = sub-ge 2147483648 (suc a) (omega (arith, f.sfits));
-      below = omega arith;
-    }

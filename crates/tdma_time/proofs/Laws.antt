@@ -9,8 +9,8 @@ use Rattle.tdma_time.specs.Modulo.{modulo, Congruent}
 use Rattle.tdma_time.specs.Slots.{W, half, valid, slots, time_at, plus, Near, centred, minus, ahead, forward}
 use Rattle.tdma_time.specs.declared.TdmaTime.{TdmaTime}
 use Rattle.signed.proofs.Integers.{by_order, sub-ge, Natural}
-use Rattle.tdma_time.proofs.Range.{in-range, is-valid, slots-below}
-use Rattle.tdma_time.proofs.Remainders.{modulo-below, modulo-small, modulo-congruent, modulo-same, modulo-frame}
+use Rattle.tdma_time.proofs.Range.{in_range, is-valid, slots-below}
+use Rattle.tdma_time.proofs.Remainders.{modulo-below, modulo-small, modulo-congruent, modulo-same, modulo_frame}
 
 -- ---- a time is its slots
 
@@ -24,7 +24,7 @@ pub slots-signed :
     → pos (slots a) ≡ (pos a.t -ℤ pos 1) +ℤ pos 4 *ℤ (pos a.f -ℤ pos 1) +ℤ pos 72 *ℤ (pos a.m -ℤ pos 1) +ℤ pos 4320 *ℤ pos a.h
 unfolding slots
 slots-signed a v =
-    let r = in-range a v in
+    let r = in_range a v in
     rw (sub-ge a.t 1 r.t-low, sub-ge a.f 1 r.f-low, sub-ge a.m 1 r.m-low)
 
 -- The time with s slots has s slots, and is in range.
@@ -43,7 +43,7 @@ time_at-valid s h = is-valid (omega arith)
 pub time_at-slots : (a : TdmaTime) → valid a ≡ true → time_at (slots a) ≡ a
 unfolding slots time_at
 time_at-slots a v =
-    let r = in-range a v in
+    let r = in_range a v in
     let q : slots a / 4 ≡ (a.f - 1) + 18 * ((a.m - 1) + 60 * a.h) = omega arith in
     let p : slots a / 72 ≡ (a.m - 1) + 60 * a.h = omega arith in
     let f : (a.f - 1 + 18 * ((a.m - 1) + 60 * a.h)) % 18 ≡ a.f - 1 = omega arith in
@@ -197,13 +197,13 @@ ahead-below a ts = modulo-below (pos ts -ℤ pos a.t) 4 (omega arith)
 pub forward-slot : (a : TdmaTime) (ts : ℕ) → valid a ≡ true → 1 ≤ ts → ts ≤ 4 → (forward a ts).t ≡ ts
 unfolding forward ahead plus time_at modulo slots
 forward-slot a ts v low high =
-    let r = in-range a v in
-    let e = modulo-frame ts a.t r.t-high in
+    let r = in_range a v in
+    let e = modulo_frame ts a.t r.t-high in
     omega arith
 
 pub forward-here : (a : TdmaTime) → valid a ≡ true → forward a a.t ≡ a
 unfolding forward ahead
 forward-here a v =
-    let r = in-range a v in
-    let e : modulo (pos a.t -ℤ pos a.t) 4 ≡ 0 = modulo-frame a.t a.t r.t-high ∙ omega arith in
+    let r = in_range a v in
+    let e : modulo (pos a.t -ℤ pos a.t) 4 ≡ 0 = modulo_frame a.t a.t r.t-high ∙ omega arith in
     ap (λ (k : ℕ). plus a (pos k)) e ∙ plus-zero a v

@@ -18,9 +18,9 @@ pub record InRange (a : TdmaTime) : Type 0 where
   pub m-high : a.m ≤ 60
   pub h-high : a.h ≤ 65535
 
-pub in-range : (a : TdmaTime) → valid a ≡ true → InRange a
+pub in_range : (a : TdmaTime) → valid a ≡ true → InRange a
 unfolding valid
-in-range a v =
+in_range a v =
     let b₁ = leb 1 a.t in
     let b₂ = b₁ && leb a.t 4 in
     let b₃ = b₂ && leb 1 a.f in
@@ -59,4 +59,4 @@ is-valid {a} r =
 
 pub slots-below : (a : TdmaTime) → valid a ≡ true → slots a < W
 unfolding slots
-slots-below a v = omega (arith, in-range a v)
+slots-below a v = omega (arith, in_range a v)

@@ -2,35 +2,23 @@
 use Prim.Native.Nat.{ℕ, suc, ◌+◌, ◌-◌, ◌*◌, ◌/◌, ◌%◌, ◌≤◌, ◌<◌}
 use native.Mathlib.Nat.{mod-lt}
 use native.Mathlib.Omega.{arith}
-use mathlib.Core.Path.{◌≡◌, ◌∙◌, ap}
-use lib.IntN.{ℤ, pos, negsuc, sub_ℕ, neg_ℤ, ◌+ℤ◌, ◌-ℤ◌, ◌*ℤ◌, pos-ne-negsuc}
+use mathlib.Core.Path.{◌≡◌, ◌∙◌, refl, ap}
+use Rattle.std.specs.Int.{int_rem_euclid}
+use lib.IntN.{ℤ, pos, negsuc, neg_ℤ, ◌+ℤ◌, ◌-ℤ◌, ◌*ℤ◌}
 use Rattle.tdma_time.specs.Modulo.{modulo, Congruent}
-use Rattle.tdma_time.specs.Slots.{W, half}
-use Rattle.signed.proofs.Integers.{by_order, sub_is, sub-negsuc, neg-times, sub-add}
+use Rattle.tdma_time.specs.Slots.{W}
+use Rattle.signed.proofs.Integers.{by_order, sub_is, sub-negsuc, neg-times}
 
--- A difference's remainder, where at most 8 W is taken away.
-modulo-less : (a b : ℕ) → b ≤ 8 * W → modulo (sub_ℕ a b) W ≡ (a + (8 * W - b)) % W
+-- Rust's remainder that is never negative is this one.
+pub euclid_is_modulo : (z : ℤ) → int_rem_euclid z (pos W) ≡ pos (modulo z W)
 unfolding modulo
-modulo-less a b h =
-    by_order (λ z. modulo z W ≡ (a + (8 * W - b)) % W) a b (λ l. omega arith) (λ l. omega arith)
-
--- s and n, where u is n and 2 ^ 31 more: to 8 W it is 8 W - 2 ^ 31.
-pub modulo-raised : (s : ℕ) (n : ℤ) (u : ℕ) → pos u ≡ n +ℤ pos 2147483648 → modulo (pos s +ℤ n) W ≡ (s + u % W + 117440512) % W
-unfolding modulo
-modulo-raised s (pos a) u e = let e' : u ≡ a + 2147483648 = cc in omega arith
-modulo-raised s (negsuc a) u e = go e
-  where
-    go : pos u ≡ sub_ℕ 2147483648 (suc a) → modulo (sub_ℕ s (suc a)) W ≡ (s + u % W + 117440512) % W
-    go = by_order (λ z. pos u ≡ z → modulo (sub_ℕ s (suc a)) W ≡ (s + u % W + 117440512) % W) 2147483648 (suc a) (λ h e'. let e'' : u ≡ 2147483648 - suc a = cc in rw (modulo-less s (suc a) (omega arith)) (omega arith)) (λ h e'. absurd (pos-ne-negsuc u _ e'))
-
--- The number from 0 up to W - 1 that a difference is cut out of.
-pub modulo-centred : (a b : ℕ) → b < W → modulo (pos a -ℤ pos b +ℤ pos half) W ≡ (a + 424_673_280 - b) % W
-modulo-centred a b h = rw (sub_is, sub-add, modulo-less (a + half) b (omega arith)) (omega arith)
+euclid_is_modulo (pos n) = refl
+euclid_is_modulo (negsuc n) = ap pos (omega arith)
 
 -- The slots from t to the next ts, within a frame of four.
-pub modulo-frame : (ts t : ℕ) → t ≤ 4 → modulo (pos ts -ℤ pos t) 4 ≡ (ts + 4 - t) % 4
+pub modulo_frame : (ts t : ℕ) → t ≤ 4 → modulo (pos ts -ℤ pos t) 4 ≡ (ts + 4 - t) % 4
 unfolding modulo
-modulo-frame ts t h =
+modulo_frame ts t h =
     rw sub_is (by_order (λ z. modulo z 4 ≡ (ts + 4 - t) % 4) ts t (λ l. omega arith) (λ l. omega arith))
 
 -- A remainder by w is below w, and of a number below W it is that number.

@@ -1,22 +1,8 @@
 -- What each function on a slot time answers: question 5 put to the times and the slot that it is given, then the value.
 use Rattle.std.specs.Prelude.{ℕ, Bool, ◌&&◌, leb, ℤ, pos}
-use Rattle.questions.specs.Outcome.{Outcome, accepted, refused, ask}
+use Rattle.questions.specs.Outcome.{Outcome, accepted, ask}
 use Rattle.tdma_time.specs.Slots.{valid, slots, plus, minus, forward}
 use Rattle.tdma_time.specs.declared.TdmaTime.{TdmaTime}
-use Rattle.tdma_time.specs.declared.Moved.{Moved}
-use Rattle.tdma_time.specs.declared.Moved.TheVariants.{To}
-use Rattle.tdma_time.specs.declared.Counted.{Counted}
-use Rattle.tdma_time.specs.declared.Counted.TheVariants.{Slots}
-
--- What a `Moved` says: the time, or number 5.
-abbrev pub moved : Moved → Outcome TdmaTime
-moved (To a) = accepted a
-moved Moved.OutOfRange = refused 5
-
--- What a `Counted` says: the slots, or number 5.
-abbrev pub counted : Counted → Outcome ℤ
-counted (Slots n) = accepted n
-counted Counted.OutOfRange = refused 5
 
 -- to_int
 abbrev pub counted_from : TdmaTime → Outcome ℤ

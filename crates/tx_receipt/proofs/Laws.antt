@@ -2,12 +2,13 @@
 use mathlib.Core.Path.{◌≡◌, refl}
 use mathlib.Core.Bool.{Bool, true, false, not, ◌||◌}
 use lib.Dec.{eqb}
+use Rattle.std.specs.Prelude.{Ok}
+use Rattle.tx_receipt.specs.declared.Mark.TheVariants as V
 use Rattle.tx_receipt.specs.States.{number, numbered, final}
-use Rattle.tx_receipt.specs.Marks.{Mark, transmitted, discarded, acknowledged, lost, reset, target, allowed, at, question, answer, marked}
+use Rattle.tx_receipt.specs.Marks.{Mark, transmitted, discarded, acknowledged, lost, target, allowed, at, question, answer, marked}
 use Rattle.tx_receipt.specs.declared.TxState.{TxState}
 use Rattle.tx_receipt.specs.declared.TxState.TheVariants.{Pending, Discarded, Transmitted, Lost, Acknowledged}
 use Rattle.tx_receipt.specs.declared.TxReceipt.{TxReceipt}
-use Rattle.tx_receipt.specs.declared.Marked.TheVariants.{Made}
 
 -- A state is the one with its number.
 pub numbered-number : (s : TxState) → numbered (number s) ≡ s
@@ -18,7 +19,7 @@ numbered-number Lost = refl
 numbered-number Acknowledged = refl
 
 -- A mark that the table allows is made, and leads to its state.
-pub made : (m : Mark) (r : TxReceipt) → allowed m r ≡ true → marked m r ≡ answer (Made (at (target m) r))
+pub made : (m : Mark) (r : TxReceipt) → allowed m r ≡ true → marked m r ≡ answer r (Ok (at (target m) r))
 made m r h = rw h
 
 -- Another is refused by its number, and the receipt stays as it was.
@@ -30,11 +31,11 @@ pub made-by-number : (m : Mark) (r : TxReceipt) → eqb (marked m r).number 0 �
 made-by-number m r = by (allowed m r) refl
   where
     asked : (m : Mark) (r : TxReceipt) → allowed m r ≡ false → eqb (question m) 0 ≡ false
-    asked transmitted r h = refl
-    asked discarded r h = refl
-    asked acknowledged r h = refl
-    asked lost r h = refl
-    asked reset r h = h
+    asked V.Transmitted r h = refl
+    asked V.Discarded r h = refl
+    asked V.Acknowledged r h = refl
+    asked V.Lost r h = refl
+    asked V.Reset r h = h
 
     by : (b : Bool) → allowed m r ≡ b → eqb (marked m r).number 0 ≡ allowed m r
     by true h = rw h

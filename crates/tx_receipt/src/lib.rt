@@ -1,16 +1,19 @@
 // Transmit receipts by value, from tetra-core's tx_receipt.rs. A mark that the Rust panics on is
-// refused, and the receipt comes back as it was.
+// refused, and the receipt stays as it was.
 #![tactic(auto)]
 
 ghost use Rattle.std.specs.Prelude.{◌≡◌, Bool, true, false};
 ghost use Rattle.tx_receipt.specs.States.{number, numbered, is, at_least, final};
-ghost use Rattle.tx_receipt.specs.Marks.{Mark, transmitted, discarded, acknowledged, lost, reset, allowed, at, answer, marked};
+ghost use Rattle.tx_receipt.specs.Marks.{transmitted, discarded, acknowledged, lost, reset, target, allowed, at, answer, marked};
+
+use questions::Refusal;
+use std::fmt;
 
 /// The marks that take a receipt lent to them.
 pub mod lent;
 
 /// How far the message of a receipt has come.
-#[derive(Clone, Copy)]
+#[derive(Clone, Copy, Debug, PartialEq, Eq, PartialOrd, Ord)]
 pub enum TxState {
     /// The message is queued and not yet sent over the air.
     Pending,
@@ -24,8 +27,23 @@ pub enum TxState {
     Acknowledged,
 }
 
+/// A mark on a receipt.
+#[derive(Clone, Copy, Debug, PartialEq, Eq)]
+pub enum Mark {
+    /// Pending to Transmitted: the lower layer has sent the message over the air.
+    Transmitted,
+    /// Pending to Discarded: the lower layer was too busy to transmit.
+    Discarded,
+    /// Transmitted to Acknowledged: an acknowledgement came from the remote side.
+    Acknowledged,
+    /// Transmitted to Lost: no acknowledgement came in time.
+    Lost,
+    /// Back to Pending from any state, for a message that is sent again.
+    Reset,
+}
+
 /// A transmit receipt.
-#[derive(Clone, Copy)]
+#[derive(Clone, Copy, Debug, PartialEq, Eq)]
 pub struct TxReceipt {
     /// Is an acknowledgement expected?
     pub expects_ack: bool,
@@ -33,22 +51,11 @@ pub struct TxReceipt {
     pub state: TxState,
 }
 
-/// The receipt after a mark, or as it was before a mark that is refused.
-#[derive(Clone, Copy)]
-pub enum Marked {
-    /// The mark is made.
-    Made(TxReceipt),
-    /// The receipt is not Pending (number 15).
-    NotPending(TxReceipt),
-    /// The receipt is not Transmitted, or expects no acknowledgement (number 14).
-    NotAwaiting(TxReceipt),
-}
+impl From<u8> for TxState {
+    ghost from_gives = { λ n s. s ≡ numbered n };
 
-impl TxState {
     /// The state with a number; Acknowledged for each number from 4 on.
-    pub fn from_raw(v: u8) -> TxState
-        ensures { result ≡ numbered v }
-    {
+    fn from(v: u8) -> TxState {
         match v {
             0 => TxState::Pending,
             1 => TxState::Discarded,
@@ -57,17 +64,49 @@ impl TxState {
             _ => TxState::Acknowledged,
         }
     }
+}
+
+impl From<TxState> for u8 {
+    ghost from_gives = { λ s n. n ≡ number s };
 
     /// The number of the state.
-    pub fn raw(self) -> u8
-        ensures { result ≡ number self }
-    {
-        match self {
+    fn from(state: TxState) -> u8 {
+        match state {
             TxState::Pending => 0,
             TxState::Discarded => 1,
             TxState::Transmitted => 2,
             TxState::Lost => 3,
             TxState::Acknowledged => 4,
+        }
+    }
+}
+
+impl fmt::Display for TxState {
+    fn fmt<W: fmt::Write>(&self, f: &mut fmt::Formatter<W>) -> fmt::Result {
+        write!(f, "{} {:?}", u8::from(*self), self)
+    }
+}
+
+impl TxState {
+    /// The state with a number; Acknowledged for each number from 4 on.
+    pub fn from_raw(v: u8) -> TxState
+        ensures { result ≡ numbered v }
+    {
+        TxState::from(v)
+    }
+}
+
+impl Mark {
+    // The state that the mark leads to.
+    fn target(self) -> TxState
+        ensures { result ≡ target self }
+    {
+        match self {
+            Mark::Transmitted => TxState::Transmitted,
+            Mark::Discarded => TxState::Discarded,
+            Mark::Acknowledged => TxState::Acknowledged,
+            Mark::Lost => TxState::Lost,
+            Mark::Reset => TxState::Pending,
         }
     }
 }
@@ -104,80 +143,83 @@ impl TxReceipt {
     pub fn is_discarded(self) -> bool
         ensures { result ≡ is TxState.Discarded self }
     {
-        self.is_in(TxState::Discarded)
+        self.state == TxState::Discarded
     }
 
     /// Has the message been sent over the air, or come further?
     pub fn is_transmitted(self) -> bool
         ensures { result ≡ at_least TxState.Transmitted self }
     {
-        let state = self.state;
-        2 <= state.raw()
+        self.state >= TxState::Transmitted
     }
 
     /// Has the remote side acknowledged receipt?
     pub fn is_acknowledged(self) -> bool
         ensures { result ≡ is TxState.Acknowledged self }
     {
-        self.is_in(TxState::Acknowledged)
+        self.state == TxState::Acknowledged
     }
 
     /// Is this the final state for the message?
     pub fn is_in_final_state(self) -> bool
         ensures { result ≡ final self }
     {
-        let state = self.state;
-        match state {
+        match self.state {
             TxState::Pending => false,
-            TxState::Discarded => true,
             TxState::Transmitted => !self.expects_ack,
-            TxState::Lost => true,
-            TxState::Acknowledged => true,
+            TxState::Discarded | TxState::Lost | TxState::Acknowledged => true,
+        }
+    }
+
+    /// May the receipt take a mark?
+    pub fn allows(self, mark: Mark) -> bool
+        ensures { result ≡ allowed mark self }
+    {
+        match mark {
+            Mark::Transmitted | Mark::Discarded => self.state == TxState::Pending,
+            Mark::Acknowledged | Mark::Lost => self.expects_ack
+                && self.state == TxState::Transmitted,
+            Mark::Reset => true,
+        }
+    }
+
+    /// The receipt after a mark; a mark that is not allowed is refused, and the receipt is as it was.
+    pub fn mark(self, mark: Mark) -> Result<TxReceipt, Refusal>
+        ensures { answer self result ≡ marked mark self }
+    {
+        match mark {
+            Mark::Transmitted | Mark::Discarded if !self.allows(mark) => Err(Refusal::NotPending),
+            Mark::Acknowledged | Mark::Lost if !self.allows(mark) => Err(Refusal::NotAwaiting),
+            _ => Ok(self.at(mark.target())),
         }
     }
 
     /// Pending to Transmitted: the lower layer has sent the message over the air.
-    pub fn mark_transmitted(self) -> Marked
-        ensures { answer result ≡ marked transmitted self }
+    pub fn mark_transmitted(self) -> Result<TxReceipt, Refusal>
+        ensures { answer self result ≡ marked transmitted self }
     {
-        if self.is_in(TxState::Pending) {
-            Marked::Made(self.at(TxState::Transmitted))
-        } else {
-            Marked::NotPending(self)
-        }
+        self.mark(Mark::Transmitted)
     }
 
     /// Pending to Discarded: the lower layer was too busy to transmit.
-    pub fn mark_discarded(self) -> Marked
-        ensures { answer result ≡ marked discarded self }
+    pub fn mark_discarded(self) -> Result<TxReceipt, Refusal>
+        ensures { answer self result ≡ marked discarded self }
     {
-        if self.is_in(TxState::Pending) {
-            Marked::Made(self.at(TxState::Discarded))
-        } else {
-            Marked::NotPending(self)
-        }
+        self.mark(Mark::Discarded)
     }
 
     /// Transmitted to Acknowledged: an acknowledgement came from the remote side.
-    pub fn mark_acknowledged(self) -> Marked
-        ensures { answer result ≡ marked acknowledged self }
+    pub fn mark_acknowledged(self) -> Result<TxReceipt, Refusal>
+        ensures { answer self result ≡ marked acknowledged self }
     {
-        if self.is_awaiting() {
-            Marked::Made(self.at(TxState::Acknowledged))
-        } else {
-            Marked::NotAwaiting(self)
-        }
+        self.mark(Mark::Acknowledged)
     }
 
     /// Transmitted to Lost: no acknowledgement came in time.
-    pub fn mark_lost(self) -> Marked
-        ensures { answer result ≡ marked lost self }
+    pub fn mark_lost(self) -> Result<TxReceipt, Refusal>
+        ensures { answer self result ≡ marked lost self }
     {
-        if self.is_awaiting() {
-            Marked::Made(self.at(TxState::Lost))
-        } else {
-            Marked::NotAwaiting(self)
-        }
+        self.mark(Mark::Lost)
     }
 
     /// Back to Pending from any state, for a message that is sent again.
@@ -187,28 +229,10 @@ impl TxReceipt {
         self.at(TxState::Pending)
     }
 
-    // Is the receipt in a state?
-    fn is_in(self, state: TxState) -> bool
-        ensures { result ≡ is state self }
-    {
-        let own = self.state;
-        own.raw() == state.raw()
-    }
-
-    // Is the receipt Transmitted, and an acknowledgement expected?
-    fn is_awaiting(self) -> bool
-        ensures { result ≡ allowed acknowledged self }
-    {
-        self.expects_ack & self.is_in(TxState::Transmitted)
-    }
-
     // The receipt in another state.
     fn at(self, state: TxState) -> TxReceipt
         ensures { result ≡ at state self }
     {
-        TxReceipt {
-            expects_ack: self.expects_ack,
-            state,
-        }
+        TxReceipt { state, ..self }
     }
 }

@@ -1,25 +1,26 @@
+use Prim.Native.Nat.{ℕ, ◌+◌, ◌-◌, ◌*◌, ◌/◌}
 use native.Mathlib.Omega.{arith}
 use borrow.Author.Rules.{rules}
-use Rattle.bit_fields.proofs.Filling.{all64-fits, begins, goes_on, ends}
+use mathlib.Core.Path.{◌≡◌, ◌∙◌, ap}
+use lib.ListN.{replicate}
+use Rattle.bits.specs.Bits.{bits, splice}
+use Rattle.bit_fields.proofs.Filling.{goes_on}
 use Rattle.bit_fields.proofs.fill.Goals as goal
 
-pub overflow_mul-pattern : goal.overflow_mul-pattern
-overflow_mul-pattern c =
-    record { fits = all64-fits c.args.bit c.requires.bit_bound }
-
-pub loop-left-init : goal.loop-left-init
-loop-left-init c =
-    let a = c.args in begins a.bytes.now a.at a.n a.bit
-
-pub loop-left-preserved : goal.loop-left-preserved
-loop-left-preserved c =
+pub loop-i-preserved : goal.loop-i-preserved
+loop-i-preserved c =
     let a = c.args in
-    let i = c.loop-left in
-    let h = c.less-h.result in
-    goes_on a.bytes.now a.at a.n a.bit i.bytes i.p i.left h _ i.invariant (omega arith) (omega arith) (omega arith) (omega arith) (search rules) c.put.ensures
+    let i = c.loop-i in
+    let next : 64 * (i.i + 1) ≡ 64 * i.i + 64 = omega arith in
+    rw next
+    (goes_on a.bytes.now a.at a.bit i.bytes (64 * i.i) 64 _ i.invariant (omega arith) (omega arith) (omega arith) (search rules) c.put.ensures)
 
 pub returns : goal.returns
 returns c =
     let a = c.args in
-    let i = c.loop-left in
-    ends a.bytes.now a.at a.n a.bit i.bytes i.p i.left i.invariant (omega arith)
+    let done : ℕ = 64 * (a.n / 64) in
+    let all : done + (a.n - done) ≡ a.n = omega arith in
+    let last : c.loop-i.i ≡ a.n / 64 = omega arith in
+    let whole = rw last at c.loop-i.invariant in
+    (goes_on a.bytes.now a.at a.bit c.loop-i.bytes done (a.n - done) _ whole (omega arith) (omega arith) (omega arith) (search rules) c.put-2.ensures).so_far
+    ∙ ap (λ (k : ℕ). splice (bits a.bytes.now) a.at (replicate k a.bit)) all

@@ -1,5 +1,4 @@
 use Rattle.bit_fields.proofs.Reading.{Reading}
-use Rattle.bit_fields.proofs.Reading.{Reading}
 use Rattle.bit_fields.proofs.get_from.Given as goal
 
 abbrev pub invariant-loop-left : goal.invariant-loop-left

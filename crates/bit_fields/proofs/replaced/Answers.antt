@@ -1,4 +1,4 @@
-use Prim.Native.Nat.{ℕ, ◌+◌, ◌-◌, ◌*◌, ◌/◌, ◌%◌, ◌^◌, ◌<◌}
+use Prim.Native.Nat.{ℕ, ◌+◌, ◌-◌, ◌*◌, ◌/◌, ◌%◌, ◌^◌}
 use native.Mathlib.Nat.{mod-lt}
 use native.Mathlib.Omega.{arith}
 use mathlib.Core.List.{List, ◌++◌}
@@ -6,7 +6,6 @@ use mathlib.Core.Path.{◌≡◌, ◌∙◌, sym, ap, ap₂}
 use Rattle.bits.proofs.Laws.{spelled-below, to_bits-spelled, to_bits-mod}
 use Rattle.bits.specs.Bits.{to_bits}
 use lib.Pow.{pow_pos}
-use Rattle.bit_fields.proofs.Powers.{shifted_fits, joined-below}
 use Rattle.bit_fields.proofs.replaced.Goals as goal
 
 -- The byte that is put together, as a number.
@@ -19,29 +18,6 @@ spelled c =
     ∙ ap₂ (λ (u l : ℕ). u * 2 ^ a.s + l)
     (c.joined-upper.ensures ∙ ap₂ (λ (t x : ℕ). t * 2 ^ a.h + x) c.piece-top.ensures c.lowest.ensures)
     c.lowest-2.ensures
-
-pub joined-upper-requires : goal.joined-upper-requires
-joined-upper-requires c =
-    let a = c.args in
-    let p : ℕ = 8 - (a.h + a.s) in
-    let t : c.piece-top.result < 2 ^ p = rw c.piece-top.ensures (mod-lt (a.b / 2 ^ (a.h + a.s)) (pow_pos p)) in record {
-      h_bound = omega arith;
-      h_bound_2 = shifted_fits p a.h c.piece-top.result t (omega arith);
-      x_bound = rw c.lowest.ensures (mod-lt a.x (pow_pos a.h));
-    }
-
-pub joined-requires : goal.joined-requires
-joined-requires c =
-    let a = c.args in
-    let p : ℕ = 8 - (a.h + a.s) in
-    let t : c.piece-top.result < 2 ^ p = rw c.piece-top.ensures (mod-lt (a.b / 2 ^ (a.h + a.s)) (pow_pos p)) in
-    let x : c.lowest.result < 2 ^ a.h = rw c.lowest.ensures (mod-lt a.x (pow_pos a.h)) in record {
-      h_bound = omega arith;
-      h_bound_2 = rw c.joined-upper.ensures
-          (shifted_fits (p + a.h) a.s (c.piece-top.result * 2 ^ a.h + c.lowest.result)
-          (joined-below p a.h c.piece-top.result c.lowest.result t x) (omega arith));
-      x_bound = rw c.lowest-2.ensures (mod-lt a.b (pow_pos a.s));
-    }
 
 pub overflow_cast-result : goal.overflow_cast-result
 overflow_cast-result c =

@@ -2,60 +2,34 @@ use Prim.Native.Nat.{ℕ, suc, ◌+◌, ◌-◌, ◌*◌, ◌/◌, ◌^◌, ◌<
 use native.Mathlib.Nat.{div-one}
 use native.Mathlib.Numerals.{add-one}
 use native.Mathlib.Omega.{arith}
-use mathlib.Core.Path.{◌∙◌, sym, ap}
-use mathlib.Core.List.{List}
+use mathlib.Core.Path.{◌≡◌, ◌∙◌, sym, ap}
 use lib.ListN.{length, get_or}
+use Rattle.std.proofs.Common.{rules}
 use Rattle.bits.specs.Bits.{to_bits}
-use Rattle.bits.proofs.Laws.{length-bits, to_bits-mod, bits-part}
+use Rattle.bits.proofs.Laws.{to_bits-mod, bits-part}
 use Rattle.bits.proofs.Bytes.{in-two-bytes}
+use Rattle.fcs.proofs.Parts.{cut-bits}
 use Rattle.fcs.proofs.byte_at.Goals as goal
 
-pub bounds-part-q : goal.bounds-part-q
-bounds-part-q c =
-    omega (arith, length-bits c.args.part.now, c.requires.s_bound, c.requires.s_in_bounds)
+pub returns-then-part-eq0-clause-result_value : goal.returns-then-part-eq0-clause-result_value
+returns-then-part-eq0-clause-result_value c =
+    let p = c.args.part in
+    let i : ℕ = c.args.i in
+    let l = p.bytes.now in
+    let e : 8 * i + 0 ≡ p.place + 8 * i = omega arith in
+    let h : i < length l = omega (arith, p.inside, c.requires) in
+    sym
+    (cut-bits p (8 * i) 8 c.requires ∙ (rw e at (bits-part l i 0 8 0 h (omega arith)))
+    ∙ ap (to_bits 8) (div-one (get_or l i 0)))
 
-pub overflow_cast-first : goal.overflow_cast-first
-overflow_cast-first c =
-    omega (arith, c.shared_slice_known-1.given c.args.q)
-
-pub returns-then-s-eq0 : goal.returns-then-s-eq0
-returns-then-s-eq0 c =
-    let args = c.args in
-    let h : args.q < length args.part.now = omega (arith, length-bits args.part.now, c.requires.s_bound, c.requires.s_in_bounds) in record {
-      upper_bound = omega (arith, c.shared_slice_known-1.given args.q);
-      result_value = sym (bits-part args.part.now args.q args.s 8 0 h (omega arith) ∙ ap (to_bits 8) (div-one (get_or args.part.now args.q 0)));
-    }
-
-pub overflow_mul-two : goal.overflow_mul-two
-overflow_mul-two c =
-    omega (arith, c.shared_slice_known-1.given c.args.q)
-
-pub overflow_add-two : goal.overflow_add-two
-overflow_add-two c =
-    omega (arith, length-bits c.args.part.now, c.requires.s_bound, c.requires.s_in_bounds)
-
-pub bounds-part-q-2 : goal.bounds-part-q-2
-bounds-part-q-2 c =
-    omega (arith, length-bits c.args.part.now, c.requires.s_bound, c.requires.s_in_bounds, c.if-s-eq0.false)
-
-pub overflow_cast-two : goal.overflow_cast-two
-overflow_cast-two c =
-    omega (arith, c.shared_slice_known-2-1.given (c.args.q + 1))
-
-pub overflow_add-two-2 : goal.overflow_add-two-2
-overflow_add-two-2 c =
-    let q : ℕ = c.args.q in
-    omega (arith, c.shared_slice_known-1.given q, c.shared_slice_known-2-1.given (q + 1))
-
-pub returns : goal.returns
-returns c =
-    let args = c.args in
-    let l : List ℕ = args.part.now in
-    let q : ℕ = args.q in
-    let s : ℕ = args.s in
-    let b : get_or l (suc q) 0 < 256 = omega (arith, c.shared_slice_known-2-1.given (suc q)) in
-    let h : suc q < length l = omega (arith, length-bits l, c.requires.s_bound, c.requires.s_in_bounds, c.if-s-eq0.false) in record {
-      upper_bound = omega arith;
-      result_value = rw (add-one q)
-          (to_bits-mod 8 ((get_or l q 0 * 256 + get_or l (suc q) 0) / 2 ^ (8 - s)) ∙ sym (in-two-bytes l q s 8 (8 - s) (omega arith) h b));
-    }
+pub returns-clause-result_value : goal.returns-clause-result_value
+returns-clause-result_value c =
+    let p = c.args.part in
+    let i : ℕ = c.args.i in
+    let l = p.bytes.now in
+    let e : 8 * i + p.place ≡ p.place + 8 * i = omega arith in
+    let b : get_or l (suc i) 0 < 256 = search rules in
+    let h : suc i < length l = omega (arith, p.inside, c.requires, c.if-part-eq0.false) in
+    rw (add-one i)
+    (to_bits-mod 8 ((get_or l i 0 * 256 + get_or l (suc i) 0) / 2 ^ (8 - p.place))
+    ∙ sym (cut-bits p (8 * i) 8 c.requires ∙ (rw e at (in-two-bytes l i p.place 8 (8 - p.place) (omega arith) h b))))

@@ -1,31 +1,18 @@
-use Prim.Native.Nat.{ℕ, ◌+◌}
-use mathlib.Core.Path.{ap}
-use mathlib.Core.List.{List}
-use borrow.Author.Tests.{leb-true}
-use lib.ListN.{length}
+use mathlib.Core.Path.{◌∙◌, sym, ap}
 use Rattle.bits.specs.Bits.{bits}
-use Rattle.questions.specs.Outcome.{accepted}
-use Rattle.questions.proofs.Asked.{passed, failed}
-use Rattle.fcs.proofs.Computed.{in-range, sum-fed}
+use Rattle.bits.specs.Parts.{bits_of}
+use Rattle.fcs.specs.Fcs.{start}
+use Rattle.fcs.proofs.Parts.{length-bits_of, all-bits_of}
+use Rattle.fcs.proofs.Computed.{sum-fed, computed-by}
 use Rattle.fcs.proofs.compute_fcs_by_bits.Goals as goal
-
-pub returns-then-not-inside : goal.returns-then-not-inside
-returns-then-not-inside c =
-    rw (failed c.inside.ensures c.if-not-inside.true-raw)
-
-pub fed_bits-requires : goal.fed_bits-requires
-fed_bits-requires c =
-    let start = c.args in
-    in-range start.part.now start.at start.len c.inside.ensures c.if-not-inside.false-raw
 
 pub returns : goal.returns
 returns c =
-    let start = c.args in
-    let l : List ℕ = start.part.now in
-    let h = passed c.inside.ensures c.if-not-inside.false-raw in
-    rw h
-    (ap accepted
-    (sum-fed l start.at start.len c.started.result c.fed_bits.result
-    (leb-true (start.at + start.len) (length (bits l)) h)
-    c.started.ensures
-    c.fed_bits.ensures))
+    let a = c.args in
+    let p = c.in_ok-new.field-0 in
+    let asked = c.in_ok-new.ensures in
+    let m = bits_of p in
+    computed-by m (bits a.part.now) a.at a.len asked.value _
+    (sum-fed m c.started.result c.fed_bits.result (all-bits_of p)
+    (c.started.ensures ∙ ap start (sym (length-bits_of p ∙ asked.count)))
+    c.fed_bits.ensures)

@@ -1,35 +1,28 @@
-use Prim.Native.Nat.{ℕ, ◌+◌, ◌*◌, ◌/◌, ◌%◌}
-use native.Mathlib.Omega.{arith}
-use mathlib.Core.Path.{◌≡◌, ◌∙◌, refl, sym}
-use mathlib.Core.List.{List}
+use Prim.Native.Nat.{ℕ, ◌%◌}
+use mathlib.Core.Path.{◌∙◌, refl, sym, ap, ap₂}
 use Rattle.bits.specs.Bits.{to_bits, value}
+use Rattle.bits.specs.Parts.{bits_of}
+use Rattle.fcs.specs.Fcs.{start}
 use Rattle.fcs.specs.Polynomials.{plus, divisor, rest}
-use Rattle.fcs.specs.Register.{entry}
-use Rattle.fcs.proofs.Register.{fed-more}
+use Rattle.fcs.specs.Register.{fed, entry}
+use Rattle.fcs.proofs.Register.{fed-cut}
+use Rattle.fcs.proofs.Parts.{length-bits_of, all-bits_of}
 use Rattle.fcs.proofs.Computed.{sum-fed}
 use Rattle.fcs.proofs.Table.{ruled}
 use Rattle.fcs.proofs.sum_of.Goals as goal
 
 -- The rule of the table is computed here, from the table of the source. The first bits and the bytes after them are the whole.
 
-pub fed_bytes-requires : goal.fed_bytes-requires
+pub fed_bytes-requires-clause-ruled : goal.fed_bytes-requires-clause-ruled
 unfolding entry rest plus divisor value to_bits
-fed_bytes-requires c =
-    record {
-      s_bound = omega arith;
-      n_in_bounds = omega arith;
-      ruled = ruled _ refl refl;
-    }
+fed_bytes-requires-clause-ruled c =
+    ruled _ refl refl
 
 pub returns : goal.returns
 returns c =
-    let args = c.args in
-    let s = c.started in
-    let l : List ℕ = args.part.now in
-    let first : ℕ = args.len % 8 in
-    let over : ℕ = args.at % 8 + first in
-    let e : 8 * (args.at / 8 + over / 8) + over % 8 ≡ args.at + first = omega arith in
-    let f : first + 8 * (args.len / 8) ≡ args.len = omega arith in
-    sum-fed l args.at args.len s.result c.fed_bytes.result c.requires s.ensures
-    ((rw (e, c.fed_bits-crc.ensures) at c.fed_bytes.ensures)
-    ∙ sym (rw f at (fed-more s.result l args.at first (8 * (args.len / 8)))))
+    let p = c.args.part in
+    let s : ℕ = c.started.result in
+    sum-fed (bits_of p) s c.fed_bytes.result (all-bits_of p) (c.started.ensures ∙ ap start (sym (length-bits_of p)))
+    (c.fed_bytes.ensures
+    ∙ ap₂ fed (c.fed_bits-crc.ensures ∙ ap (fed s) c.before-2.ensures.value) c.behind.ensures.value
+    ∙ sym (fed-cut s (bits_of p) (p.len % 8) (all-bits_of p)))

@@ -1,20 +1,17 @@
-use Rattle.std.proofs.Common.{arith}
+use Rattle.std.proofs.lemmas.List.{take_rest}
 use Rattle.record_lines.proofs.Cuts.{first_field, next_field, next-record, last-record}
 use Rattle.record_lines.proofs.record_end.Goals as goal
 
-pub loop-i-init : goal.loop-i-init
-loop-i-init c =
-    let a = c.args in
-    first_field a.records.now a.at a.len c.field_end-i.result (omega arith) (omega arith) c.field_end-i.ensures
+pub loop-end-init : goal.loop-end-init
+loop-end-init c = first_field c.args.records.now c.field_end-end.result c.requires c.field_end-end.ensures
 
-pub returns-then-records-i-eq-KIND : goal.returns-then-records-i-eq-KIND
-returns-then-records-i-eq-KIND c =
-    next-record c.loop-i.invariant (omega arith) (omega arith) c.if-records-i-eq-KIND.true
+pub loop-end-preserved : goal.loop-end-preserved
+loop-end-preserved c =
+    next_field c.field_end-end-in-loop-end.result c.loop-end.invariant c.loop-end-test.true c.if-records-end-ne-KIND.true
+    (rw (take_rest c.args.records.now c.loop-end.end) at c.field_end-end-in-loop-end.ensures)
 
-pub loop-i-preserved : goal.loop-i-preserved
-loop-i-preserved c =
-    next_field c.field_end-i-in-loop-i.result c.loop-i.invariant (omega arith) (omega arith) c.if-records-i-eq-KIND.false
-    c.field_end-i-in-loop-i.ensures
+pub returns-else-records-end-ne-KIND : goal.returns-else-records-end-ne-KIND
+returns-else-records-end-ne-KIND c = next-record c.loop-end.invariant c.loop-end-test.true c.if-records-end-ne-KIND.false
 
-pub returns : goal.returns
-returns c = last-record c.loop-i.invariant (omega arith)
+pub returns-after-loop-end : goal.returns-after-loop-end
+returns-after-loop-end c = last-record c.loop-end.invariant c.loop-end-test.false

@@ -1,9 +1,5 @@
-use Rattle.std.proofs.Common.{length, ◌-◌}
 use Rattle.hex_lines.proofs.Gathering.{Under}
 use Rattle.hex_lines.proofs.chunks.gather.Given as goal
 
 abbrev pub invariant-loop-i : goal.invariant-loop-i
 invariant-loop-i l = Under l.chunk l.from l.fn.line l.fn.bytes l.line l.bytes l.i
-
-abbrev pub decreases-loop-i : goal.decreases-loop-i
-decreases-loop-i l = length l.chunk - l.i

@@ -4,4 +4,4 @@ use Rattle.hex_lines.proofs.writing.put_hex.Goals as goal
 
 pub returns : goal.returns
 unfolding hex_of
-returns c = rw (← c.hex_digit-high.ensures, ← c.hex_digit-low.ensures) (c.put-p.ensures ⨾ c.put.ensures)
+returns c = rw (← c.hex_digit.ensures, ← c.hex_digit-2.ensures) (c.put-p.ensures ⨾ c.put.ensures)

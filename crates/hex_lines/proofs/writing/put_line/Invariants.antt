@@ -1,9 +1,7 @@
-use Rattle.std.proofs.Common.{◌-◌, ◌≤◌}
-use Rattle.hex_lines.proofs.Writes.{Part}
+use Rattle.std.proofs.Common.{take}
+use Rattle.lists.specs.Writes.{Wrote}
+use Rattle.hex_lines.specs.Lines.{hex_of}
 use Rattle.hex_lines.proofs.writing.put_line.Given as goal
 
-abbrev pub invariant-loop-i : goal.invariant-loop-i
-invariant-loop-i l = (l.i ≤ l.to) × Part l.fn.out l.bytes l.at l.from l.i l.out l.p
-
-abbrev pub decreases-loop-i : goal.decreases-loop-i
-decreases-loop-i l = l.to - l.i
+abbrev pub invariant-loop-b : goal.invariant-loop-b
+invariant-loop-b l = Wrote l.fn.out l.at (hex_of (take l.b-index l.bytes)) l.out l.p

@@ -1,16 +1,28 @@
-use Rattle.lists.proofs.Writes.{◌⨾◌}
-use Rattle.hex_lines.proofs.Writes.{one-digit, two_digits, three-digits}
+use Rattle.std.proofs.Common.{arith, ◌≡◌, ◌/◌, ◌%◌}
+use Rattle.lists.proofs.Writes.{◌⨾◌, wrote_none}
+use Rattle.hex_lines.proofs.Writes.{one-digit, two_digits, three-digits, placed}
 use Rattle.hex_lines.proofs.writing.put_number.Goals as goal
-
-pub returns-then-n-lt10 : goal.returns-then-n-lt10
-returns-then-n-lt10 c = rw (one-digit c.args.n c.if-n-lt10.true) (c.put-p.ensures ⨾ c.put.ensures)
-
-pub returns-then-n-lt100 : goal.returns-then-n-lt100
-returns-then-n-lt100 c =
-    rw (two_digits c.args.n c.if-n-lt10.false c.if-n-lt100.true)
-    (c.put-p-then-n-lt100.ensures ⨾ c.put-p-then-n-lt100-2.ensures ⨾ c.put-then-n-lt100.ensures)
+use Rattle.hex_lines.proofs.writing.put_number.Goals.{then-n-ge100, else-n-ge100, then-n-ge10, else-n-ge10}
 
 pub returns : goal.returns
 returns c =
-    rw (three-digits c.args.n c.if-n-lt10.false c.if-n-lt100.false)
-    (c.put-p-2.ensures ⨾ c.put-p-3.ensures ⨾ c.put-p-4.ensures ⨾ c.put-2.ensures)
+    let n = c.args.n in
+    let last = c.put-p-2.ensures ⨾ c.put.ensures in
+    elim c.if-n-ge100.branch [
+      | then-n-ge100 w ↦ elim c.if-n-ge10.branch [
+        | then-n-ge10 v ↦
+            rw (three-digits n (omega arith) (omega arith))
+            (placed w.out-is w.p-is w.put-p.ensures ⨾ placed v.out-is v.p-is v.put-p-then-n-ge10.ensures ⨾ last)
+        | else-n-ge10 v ↦ absurd (omega arith)
+      ]
+      | else-n-ge100 w ↦ elim c.if-n-ge10.branch [
+        | then-n-ge10 v ↦
+            let tens : n / 10 % 10 ≡ n / 10 = omega arith in
+            rw (two_digits n (omega arith) (omega arith), ← tens)
+            (placed w.out-is w.p-is (wrote_none _ _) ⨾ placed v.out-is v.p-is v.put-p-then-n-ge10.ensures ⨾ last)
+        | else-n-ge10 v ↦
+            let ones : n % 10 ≡ n = omega arith in
+            rw (one-digit n (omega arith), ← ones)
+            (placed w.out-is w.p-is (wrote_none _ _) ⨾ placed v.out-is v.p-is (wrote_none _ _) ⨾ last)
+      ]
+    ]

@@ -1,41 +1,41 @@
-use Rattle.llc_frames.proofs.Paths.{read_here, handed-back, of-frame, of-refused}
+use native.Mathlib.Omega.{arith}
+use mathlib.Core.Path.{subst, sym}
+use Rattle.std.proofs.Common.{ℕ, List, rules}
+use Rattle.questions.specs.Outcome.{Outcome}
+use Rattle.llc_pdus.specs.Received.{Received}
+use Rattle.llc_calls.specs.Decoded.{frame_of}
+use Rattle.llc_steps.specs.Answers.{answered, WithAnyStore}
+use Rattle.llc_steps.specs.Calls.{on_received}
+use Rattle.llc_frames.proofs.Paths.{frame_small, read-refused, handed-back, never-refused}
 use Rattle.llc_frames.proofs.frames.rx_tma_unitdata_ind.Goals as goal
 
-pub returns-then-number-ne0 : goal.returns-then-number-ne0
-returns-then-number-ne0 c =
+pub returns-in_err-pdu : goal.returns-in_err-pdu
+returns-in_err-pdu c =
     let a = c.args in
-    let read = read_here a.state a.f a.bytes.now c.requires.frame_inside c.from_bitbuf.ensures in
-    let handed =
-    handed-back a.state a.f a.bytes.now c.in-Frame.is read c.requires.f_value c.requires.frame_inside c.sdu_bytes-part.ensures
-    in
-    absurd (c.if-number-ne0.true handed.zeroth)
+    let refused = read-refused a.f.now a.state.now c.in_err-pdu.field-0.0 a.out.now c.in_err-pdu.ensures in
+    search rules
 
-pub rx_tma_unitdata_ind_bl-requires : goal.rx_tma_unitdata_ind_bl-requires
-rx_tma_unitdata_ind_bl-requires c =
-    let a = c.args in
-    let read = read_here a.state a.f a.bytes.now c.requires.frame_inside c.from_bitbuf.ensures in
-    let handed =
-    handed-back a.state a.f a.bytes.now c.in-Frame.is read c.requires.f_value c.requires.frame_inside c.sdu_bytes-part.ensures
-    in
-    record {
-      state_value = c.requires.state_value;
-      output_bytes_in_bounds = c.requires.output_bytes_in_bounds;
-      f_value = c.requires.f_value;
-      frame_inside = c.requires.frame_inside;
-      sdu_lent = handed.sdu;
-      started_value = c.requires.started_value;
-    }
+pub returns-in_err-sdu_bytes : goal.returns-in_err-sdu_bytes
+returns-in_err-sdu_bytes c =
+    never-refused c.args.f.now c.in_ok-pdu.pdu c.in_ok-pdu.sdu c.in_ok-pdu.ensures c.in_err-sdu_bytes.ensures
 
-pub returns-else-number-ne0 : goal.returns-else-number-ne0
-returns-else-number-ne0 c =
-    let a = c.args in
-    let read = read_here a.state a.f a.bytes.now c.requires.frame_inside c.from_bitbuf.ensures in
-    let handed =
-    handed-back a.state a.f a.bytes.now c.in-Frame.is read c.requires.f_value c.requires.frame_inside c.sdu_bytes-part.ensures
-    in
-    of-frame a.state a.f a.bytes.now c.in-Frame.is read handed c.rx_tma_unitdata_ind_bl.ensures
+pub invariant_of-part : goal.invariant_of-part
+invariant_of-part c =
+    let h = handed-back c.args.f.now c.in_ok-pdu.pdu c.in_ok-pdu.sdu c.in_ok-pdu.ensures c.in_ok-sdu_bytes.ensures in
+    record { begins = h.early; inside = h.inside }
 
-pub returns-in-Refused : goal.returns-in-Refused
-returns-in-Refused c =
+pub rx_tma_unitdata_ind_bl-requires-clause-sdu_short : goal.rx_tma_unitdata_ind_bl-requires-clause-sdu_short
+rx_tma_unitdata_ind_bl-requires-clause-sdu_short c =
+    let h = handed-back c.args.f.now c.in_ok-pdu.pdu c.in_ok-pdu.sdu c.in_ok-pdu.ensures c.in_ok-sdu_bytes.ensures in
+    omega (arith, (frame_small c.args.f.now c.requires.f_value).1)
+
+pub returns : goal.returns
+returns c =
     let a = c.args in
-    of-refused a.state a.f a.bytes.now a.out.now c.in-Refused.is (read_here a.state a.f a.bytes.now c.requires.frame_inside c.from_bitbuf.ensures) c.refused-in-Refused.ensures
+    let w = c.rx_tma_unitdata_ind_bl in
+    let h = handed-back a.f.now c.in_ok-pdu.pdu c.in_ok-pdu.sdu c.in_ok-pdu.ensures c.in_ok-sdu_bytes.ensures in
+    subst
+    (λ (o : Outcome Received).
+    WithAnyStore (answered w.new.state w.result) w.new.out a.state.now a.out.now (λ (store : List ℕ). on_received (frame_of a.f.now) o a.state.now store))
+    (sym h.same)
+    w.ensures

@@ -1,133 +1,43 @@
-use mathlib.Core.Path.{◌∙◌, sym}
-use borrow.Author.Tests.{not-true, not-false}
-use Rattle.llc_state.proofs.InRange.{range-tells}
-use Rattle.llc_state.proofs.Lengths.{lengths}
-use Rattle.llc_frames.proofs.Numbered.{same_queue}
-use Rattle.llc_frames.proofs.Paths.{rows-full, row-left, has_room, acks-full, not-finishable, heard}
+use native.Mathlib.Omega.{arith}
+use lib.ListN.{length}
+use Rattle.std.proofs.Common.{◌≤◌, rules}
+use Rattle.bits.specs.Parts.{bits_of}
+use Rattle.llc_calls.proofs.Laws.{bits-length}
+use Rattle.llc_rule.specs.Limits.{longest_frame}
+use Rattle.llc_frames.proofs.Heard.{still_few, still_ranged}
+use Rattle.llc_frames.proofs.Paths.{row-refused, numbers, place-refused, answers, frame-heard}
 use Rattle.llc_frames.proofs.frames.rx_tma_unitdata_ind_bl.Goals as goal
 
-pub seq_row-row-requires : goal.seq_row-row-requires
-seq_row-row-requires c =
-    c.requires.state_value
-
-pub returns-then-row-ge256 : goal.returns-then-row-ge256
-returns-then-row-ge256 c =
-    let n = c.seq_numbers-numbers in
+pub returns-in_err-row : goal.returns-in_err-row
+returns-in_err-row c =
     let a = c.args in
-    rows-full a.state a.f a.bytes.now a.pdu a.sdu.now a.place a.len n.result n.ensures.result_value n.ensures.result_value_2
-    c.requires.state_value
-    (lengths a.state c.well_formed.0)
-    c.seq_row-row.ensures
-    a.out.now
-    c.if-row-ge256.true
-    c.refused.ensures
+    let refused = row-refused a.state.now a.f.now a.pdu (bits_of a.sdu) c.in_err-row.field-0.0 a.out.now c.in_err-row.ensures.place in
+    search rules
 
-pub returns-then-numbers-state : goal.returns-then-numbers-state
-returns-then-numbers-state c =
-    let n = c.seq_numbers-numbers in
+pub returns-in_err-place : goal.returns-in_err-place
+returns-in_err-place c =
     let a = c.args in
-    -- Question 7 was passed.
-    let row-there =
-    row-left a.state a.f a.bytes.now a.pdu a.sdu.now a.place a.len n.result n.ensures.result_value n.ensures.result_value_2
-    c.requires.state_value
-    (lengths a.state c.well_formed.0)
-    c.seq_row-row.ensures
-    c.if-row-ge256.false
-    in
-    acks-full a.state a.f a.bytes.now a.pdu a.sdu.now a.place a.len n.result n.ensures.result_value n.ensures.result_value_2
-    a.out.now
-    row-there
-    c.if-numbers-state.true
-    c.refused-then-numbers-state.ensures
+    let n = numbers a.state.now a.f.now a.pdu (bits_of a.sdu) c.in_ok-row.ensures.place in
+    let refused = place-refused a.state.now a.f.now a.pdu (bits_of a.sdu) c.in_err-place.field-0.0 a.out.now n c.in_err-place.ensures in
+    search rules
 
-pub ack_place-i-requires : goal.ack_place-i-requires
-ack_place-i-requires c =
-    (range-tells c.args.state c.requires.state_value).head.messages
+pub process_incoming_ack-requires-clause-n_messages_bound : goal.process_incoming_ack-requires-clause-n_messages_bound
+process_incoming_ack-requires-clause-n_messages_bound c =
+    still_few c.args.state.now _ _ _ _ _ c.acknowledge.ensures c.requires.state_value
 
-pub may_finish-requires : goal.may_finish-requires
-may_finish-requires c =
-    c.requires.state_value
-
-pub returns-then-not-may_finish : goal.returns-then-not-may_finish
-returns-then-not-may_finish c =
-    let n = c.seq_numbers-numbers in
-    let a = c.args in
-    -- Question 7 was passed.
-    let row-there =
-    row-left a.state a.f a.bytes.now a.pdu a.sdu.now a.place a.len n.result n.ensures.result_value n.ensures.result_value_2
-    c.requires.state_value
-    (lengths a.state c.well_formed.0)
-    c.seq_row-row.ensures
-    c.if-row-ge256.false
-    in
-    not-finishable a.state a.f a.bytes.now a.pdu a.sdu.now a.place a.len n.result n.ensures.result_value n.ensures.result_value_2
-    c.ack_place-i.ensures
-    a.out.now
-    row-there
-    c.if-numbers-state.false
-    (sym c.may_finish.ensures ∙ not-true c.may_finish.result c.if-not-may_finish.true-raw)
-    c.refused-then-not-may_finish.ensures
-
-pub is_repeat-repeat-requires : goal.is_repeat-repeat-requires
-is_repeat-repeat-requires c =
-    record {
-      state_value = c.requires.state_value;
-      row_value = c.seq_row-row.ensures;
-    }
-
-pub put_unless_repeat-n-requires : goal.put_unless_repeat-n-requires
-put_unless_repeat-n-requires c =
-    record {
-      output_bytes_in_bounds = c.requires.output_bytes_in_bounds;
-      f_value = c.requires.f_value;
-      frame_inside = c.requires.frame_inside;
-      sdu_lent = c.requires.sdu_lent;
-    }
-
-pub acknowledge-next-requires : goal.acknowledge-next-requires
-acknowledge-next-requires c =
-    let n = c.seq_numbers-numbers in
-    let a = c.args in
-    let some =
-    has_room a.state a.f a.bytes.now a.pdu a.sdu.now a.place a.len n.result n.ensures.result_value n.ensures.result_value_2 c.if-numbers-state.false
-    in record {
-      state_value = c.requires.state_value;
-      state_value_2 = some;
-      started_value = c.requires.started_value;
-      row_value = c.seq_row-row.ensures;
-      row_bound = c.if-row-ge256.false;
-    }
-
-pub process_incoming_ack-requires : goal.process_incoming_ack-requires
-process_incoming_ack-requires c =
-    let same =
-    same_queue c.args.state c.args.f.ssi c.seq_numbers-numbers.result c.args.f.ssi_type c.args.f.carrier
-    c.acknowledge-next.ensures
-    c.requires.state_value
-    in record { n_messages_bound = same.0; state_value = same.1 }
+pub process_incoming_ack-requires-clause-messages_value : goal.process_incoming_ack-requires-clause-messages_value
+process_incoming_ack-requires-clause-messages_value c =
+    still_ranged c.args.state.now _ _ _ _ _ c.acknowledge.ensures c.requires.state_value
 
 pub returns : goal.returns
 returns c =
-    let n = c.seq_numbers-numbers in
     let a = c.args in
-    -- Question 7 was passed.
-    let row-there =
-    row-left a.state a.f a.bytes.now a.pdu a.sdu.now a.place a.len n.result n.ensures.result_value n.ensures.result_value_2
-    c.requires.state_value
-    (lengths a.state c.well_formed.0)
-    c.seq_row-row.ensures
-    c.if-row-ge256.false
-    in
-    heard a.state a.f a.bytes.now a.pdu a.sdu.now a.place a.len n.result n.ensures.result_value n.ensures.result_value_2
-    c.ack_place-i.ensures
-    row-there
-    c.if-numbers-state.false
-    (sym c.may_finish.ensures ∙ not-false c.may_finish.result c.if-not-may_finish.false-raw)
-    c.is_repeat-repeat.ensures
-    c.acknowledge-next.ensures
+    let n = numbers a.state.now a.f.now a.pdu (bits_of a.sdu) c.in_ok-row.ensures.place in
+    let answer = answers a.state.now a.f.now a.pdu (bits_of a.sdu) c.in_ok-place.ensures in
+    let short : length (bits_of a.sdu) ≤ longest_frame = omega (arith, bits-length a.sdu) in
+    frame-heard a.state.now a.f.now a.pdu (bits_of a.sdu) answer c.acknowledge.ensures n c.is_repeat-repeat.ensures
     c.process_incoming_ack.ensures
     c.requires.f_value
-    c.requires.sdu_lent
+    short
     c.requires.output_bytes_in_bounds
-    c.accepted.ensures
-    c.put_unless_repeat-n.ensures
+    c.put_unless_repeat-len.ensures

@@ -7,12 +7,14 @@ use Rattle.questions.specs.Effect.{Effect}
 use Rattle.bitbuffer.specs.declared.Windows.{Windows}
 use Rattle.bitbuffer.specs.declared.BitBuffer.{BitBuffer}
 use Rattle.bits.specs.Bits.{bits}
+use Rattle.bits.proofs.Laws.{length-bits}
 use Rattle.llc_pdus.proofs.writing.put_sdu.Goals as goal
 
 pub returns : goal.returns
 returns c =
     let a = c.args in
-    let w : BitBuffer = record { start = 0; pos = a.size; end = a.size + a.len; flag_autoexpand = false } in
-    let v : BitBuffer = record { start = a.from; pos = a.from; end = a.from + a.len; flag_autoexpand = false } in
+    let s = a.sdu in
+    let w : BitBuffer = record { start = 0; pos = a.size; end = a.size + s.len; flag_autoexpand = false } in
+    let v : BitBuffer = record { start = s.place; pos = s.place; end = s.place + s.len; flag_autoexpand = false } in
     ap (λ (e : Effect Windows). e.bits) c.copy_bits.ensures
-    ∙ copied-inside w (bits a.out.now) v (bits a.sdu.now) a.len (omega arith) (omega arith) (omega arith) (omega arith)
+    ∙ copied-inside w (bits a.out.now) v (bits s.bytes.now) s.len (omega arith) (omega (arith, s.inside, length-bits s.bytes.now)) (omega arith) (omega arith)

@@ -1,45 +1,10 @@
-use Prim.Native.Nat.{◌-◌}
-use mathlib.Core.Path.{refl, sym, ap₂}
-use mathlib.Core.Bool.{◌||◌}
-use borrow.Author.Tests.{eq-eqb, ne_eqb}
-use Rattle.lists.proofs.Searching.{begins, goes_on, one_passes, none_passes}
-use Rattle.llc_state.proofs.Lengths.{lengths}
-use Rattle.llc_steps.specs.Calls.{held}
+use Rattle.llc_queues.proofs.Found.{held-by, or-then, or-else}
 use Rattle.llc_queues.proofs.searches.holds.Goals as goal
 
-pub loop-i-init : goal.loop-i-init
-loop-i-init c =
-    begins _ c.requires.n_messages_bound (lengths c.args.state c.well_formed.0).messages
+pub returns-then-any_with : goal.returns-then-any_with
+returns-then-any_with c =
+    or-then _ _ (held-by c.args.receipt c.args.state.now) c.any_with.ensures c.if-any_with.true
 
-pub returns-then-state-i : goal.returns-then-state-i
-unfolding held
-returns-then-state-i c =
-    sym (ap₂ ◌||◌ (one_passes c.loop-i.invariant _ c.loop-i-test.true (eq-eqb _ _ c.if-state-i.true)) refl)
-
-pub loop-i-preserved : goal.loop-i-preserved
-loop-i-preserved c =
-    goes_on c.loop-i.invariant _ c.loop-i-test.true (ne_eqb _ _ c.if-state-i.false)
-
-pub loop-j-init : goal.loop-j-init
-loop-j-init c =
-    begins _ c.requires.n_udata_bound (lengths c.args.state c.well_formed.0).udata
-
-pub returns-then-state-j : goal.returns-then-state-j
-unfolding held
-returns-then-state-j c =
-    sym
-    (ap₂ ◌||◌
-    (none_passes c.loop-i.invariant c.loop-i-test.false)
-    (one_passes c.loop-j.invariant _ c.loop-j-test.true (eq-eqb _ _ c.if-state-j.true)))
-
-pub loop-j-preserved : goal.loop-j-preserved
-loop-j-preserved c =
-    goes_on c.loop-j.invariant _ c.loop-j-test.true (ne_eqb _ _ c.if-state-j.false)
-
-pub returns : goal.returns
-unfolding held
-returns c =
-    sym
-    (ap₂ ◌||◌
-    (none_passes c.loop-i.invariant c.loop-i-test.false)
-    (none_passes c.loop-j.invariant c.loop-j-test.false))
+pub returns-else-any_with : goal.returns-else-any_with
+returns-else-any_with c =
+    or-else _ _ (held-by c.args.receipt c.args.state.now) c.any_with.ensures c.if-any_with.false c.any_with-else-any_with.ensures

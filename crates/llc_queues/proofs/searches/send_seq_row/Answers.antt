@@ -1,20 +1,18 @@
-use Prim.Native.Nat.{◌-◌}
-use borrow.Author.Tests.{eq-eqb, ne_eqb}
-use Rattle.lists.proofs.Searching.{begins, goes_on, found, ends}
+use mathlib.Core.Path.{◌∙◌, sym}
+use Rattle.llc_queues.proofs.Found.{row-there, row-behind, row-none}
 use Rattle.llc_queues.proofs.searches.send_seq_row.Goals as goal
 
-pub loop-i-init : goal.loop-i-init
-loop-i-init c =
-    begins _ c.requires c.well_formed.0.1.0.1
+pub returns-in-Some-clause-place : goal.returns-in-Some-clause-place
+returns-in-Some-clause-place c =
+    row-there c.args.ssi c.args.state.now (sym (rw c.in_use.ensures.part at c.row_of.ensures) ∙ c.in-Some.is)
 
-pub returns-then-row-ssi : goal.returns-then-row-ssi
-returns-then-row-ssi c =
-    found c.loop-i.invariant _ c.loop-i-test.true (eq-eqb _ _ c.if-row-ssi.true)
+pub returns-in-None-clause-place : goal.returns-in-None-clause-place
+returns-in-None-clause-place c =
+    row-behind c.args.ssi c.args.state.now (sym (rw c.in_use.ensures.part at c.row_of.ensures) ∙ c.in-None.is)
+    (rw c.in_use.ensures.part at c.in_use.ensures.count)
+    c.if-state-lt256.true
 
-pub loop-i-preserved : goal.loop-i-preserved
-loop-i-preserved c =
-    goes_on c.loop-i.invariant _ c.loop-i-test.true (ne_eqb _ _ c.if-row-ssi.false)
-
-pub returns : goal.returns
-returns c =
-    ends c.loop-i.invariant c.loop-i-test.false
+pub returns-in-None-2-clause-place : goal.returns-in-None-2-clause-place
+returns-in-None-2-clause-place c =
+    row-none c.args.ssi c.args.state.now (sym (rw c.in_use.ensures.part at c.row_of.ensures) ∙ c.in-None.is)
+    c.if-state-lt256.false

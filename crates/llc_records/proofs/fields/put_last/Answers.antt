@@ -1,34 +1,22 @@
-use Prim.Native.Nat.{ℕ, ◌<◌}
-use native.Mathlib.Omega.{arith}
-use mathlib.Core.List.{[], ◌∷◌}
-use mathlib.Core.Path.{◌≡◌, ◌∙◌, sym, ap}
-use lib.ListN.{length}
-use Rattle.lists.proofs.Writes.{same_bytes, wrote_none}
+use Rattle.std.proofs.Common.{◌∙◌, ◌∷◌, [], ℕ, sym, ap, arith}
+use Rattle.lists.proofs.Writes.{same_bytes, wrote_none, wrote_one}
 use Rattle.bits.proofs.Bytes.{all-part}
-use Rattle.bits.specs.Bits.{bits, part}
-use Rattle.llc_rule.specs.Records.{pack}
+use Rattle.bits.specs.Parts.{bits_of}
 use Rattle.llc_records.proofs.Parts.{bits-long, pack-none, pack-few, last-exact, last_fits}
 use Rattle.llc_records.proofs.fields.put_last.Goals as goal
 
-pub returns-then-h-eq0 : goal.returns-then-h-eq0
-returns-then-h-eq0 c =
-    let a = c.args in
-    same_bytes (sym (ap (λ (k : ℕ). pack (part (bits a.frames.now) a.first k)) c.if-h-eq0.true ∙ pack-none)) (wrote_none a.out.now a.at)
+pub returns-then-bits-eq0 : goal.returns-then-bits-eq0
+returns-then-bits-eq0 c = same_bytes (pack-none (bits_of c.args.bits) (bits-long c.args.bits ∙ omega arith)) (wrote_none c.args.out.now c.args.at)
 
-pub overflow_cast-get : goal.overflow_cast-get
-overflow_cast-get c =
-    let a = c.args in
-    let x = part (bits a.frames.now) a.first a.h in
-    let long : length x ≡ a.h = bits-long a.frames.now a.first a.h (omega arith) in
-    record { fits = last_fits x a.h c.get.result (all-part a.frames.now a.first a.h) long (omega arith) c.get.ensures }
+pub overflow_cast-out : goal.overflow_cast-out
+overflow_cast-out c =
+    let p = c.args.bits in
+    record { fits = last_fits (bits_of p) p.len c.get.result (all-part p.bytes.now p.place p.len) (bits-long p) (omega arith) c.get.ensures }
 
 pub returns : goal.returns
 returns c =
-    let a = c.args in
-    let x = part (bits a.frames.now) a.first a.h in
-    let long : length x ≡ a.h = bits-long a.frames.now a.first a.h (omega arith) in
-    let some : 0 < a.h = omega arith in
+    let p = c.args.bits in
     same_bytes
-    (ap (λ (v : ℕ). v ∷ []) (last-exact x a.h c.get.result (all-part a.frames.now a.first a.h) long (omega arith) c.get.ensures)
-    ∙ sym (pack-few x a.h long some (omega arith)))
-    c.put_byte.ensures
+    (ap (λ (v : ℕ). v ∷ []) (last-exact (bits_of p) p.len c.get.result (all-part p.bytes.now p.place p.len) (bits-long p) (omega arith) c.get.ensures)
+    ∙ sym (pack-few (bits_of p) p.len (bits-long p) (omega arith) (omega arith)))
+    (wrote_one c.args.out.now c.args.at _)

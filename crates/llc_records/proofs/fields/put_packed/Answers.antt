@@ -1,23 +1,16 @@
-use Prim.Native.Nat.{ℕ, ◌*◌, ◌/◌}
-use native.Mathlib.Omega.{arith}
+use Rattle.std.proofs.Common.{◌-◌, ◌%◌, arith, ap}
 use Rattle.lists.proofs.Writes.{◌⨾◌, same_bytes}
-use Rattle.bits.proofs.Laws.{length-bits}
-use Rattle.bits.specs.Bits.{bits, part}
-use Rattle.llc_rule.proofs.Records.{length-packed}
-use Rattle.llc_records.proofs.Parts.{pack-part}
+use Rattle.bits.specs.Parts.{bits_of}
+use Rattle.llc_rule.specs.Records.{pack}
+use Rattle.llc_records.proofs.Parts.{bits-long, length-pack, pack-parts}
 use Rattle.llc_records.proofs.fields.put_packed.Goals as goal
 
-pub put_last-requires : goal.put_last-requires
-put_last-requires c =
-    let a = c.args in
-    let q : ℕ = a.len / 8 in record {
-      h_bound = omega (arith, length-packed q (part (bits a.frames.now) a.first (8 * q)));
-      h_in_bounds = omega (arith, length-packed q (part (bits a.frames.now) a.first (8 * q)));
-      h_bound_2 = omega (arith, length-packed q (part (bits a.frames.now) a.first (8 * q)));
-    }
+pub put_last-requires-clause-len_in_bounds : goal.put_last-requires-clause-len_in_bounds
+put_last-requires-clause-len_in_bounds c =
+    omega (arith, length-pack (bits_of c.before-2.result), bits-long c.before-2.result)
 
 pub returns : goal.returns
 returns c =
-    let a = c.args in
-    same_bytes (pack-part (bits a.frames.now) a.first a.len (rw (length-bits a.frames.now) (omega (arith, c.requires.len_bound, c.requires.len_in_bounds, c.requires.len_bound_2, c.requires.len_bound_3))))
-    (c.put_whole-p.ensures ⨾ c.put_last.ensures)
+    let p = c.args.bits in
+    same_bytes (pack-parts (p.len - p.len % 8) (bits_of p) (omega (arith, bits-long p)) (omega arith))
+    (same_bytes (ap pack c.before-2.ensures.value) c.put_whole-p.ensures ⨾ same_bytes (ap pack c.behind.ensures.value) c.put_last.ensures)

@@ -1,17 +1,19 @@
-use Prim.Native.Nat.{◌*◌}
-use native.Mathlib.Omega.{arith}
-use mathlib.Core.Path.{◌≡◌}
-use lib.ListN.{length}
-use Rattle.bits.specs.Bits.{bits, part}
-use borrow.Author.Rules.{rules}
-use Rattle.llc_records.proofs.Parts.{bits-long, wrote-packed}
+use Rattle.std.proofs.Common.{◌≡◌, ◌∙◌, ◌*◌, ◌/◌, ℕ, List, get_or, Fits, w8, ap, arith, rules}
+use Rattle.lists.proofs.Writes.{same_bytes}
+use Rattle.bits.specs.Bits.{bits, part, splice}
+use Rattle.bits.specs.Parts.{bits_of}
+use Rattle.llc_records.proofs.Parts.{bits-long, pack-whole, wrote-packed}
 use Rattle.llc_records.proofs.fields.put_whole.Goals as goal
 
 pub returns : goal.returns
 returns c =
     let a = c.args in
-    let size : length c.copy_bytes.new.dst ≡ length a.out.now = search rules in
-    wrote-packed a.out.now c.copy_bytes.new.dst (part (bits a.frames.now) a.first (8 * a.k)) a.at a.k
-    (λ i. (c.slice_known-1.given i).fits) (λ i. (c.slice_known-2-1.given i).fits) size (omega arith)
-    (bits-long a.frames.now a.first (8 * a.k) (omega arith))
-    c.copy_bytes.ensures
+    let k : ℕ = a.bits.len / 8 in
+    let x : List ℕ = bits_of a.bits in
+    let whole : 8 * k ≡ a.bits.len = omega arith in
+    let before : (i : ℕ) → Fits w8 (get_or a.out.now i 0) = search rules in
+    let after : (i : ℕ) → Fits w8 (get_or c.copy_bytes.new.dst i 0) = search rules in
+    same_bytes (pack-whole k x (bits-long a.bits ∙ omega arith))
+    (wrote-packed a.out.now c.copy_bytes.new.dst x a.at k (λ i. (before i).fits) (λ i. (after i).fits) (search rules) c.requires.len_in_bounds
+    (bits-long a.bits ∙ omega arith)
+    (c.copy_bytes.ensures ∙ ap (λ (n : ℕ). splice (bits a.out.now) (8 * a.at) (part (bits a.bits.bytes.now) a.bits.place n)) whole))

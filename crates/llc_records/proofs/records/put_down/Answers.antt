@@ -1,36 +1,5 @@
-use native.Mathlib.Omega.{arith}
 use Rattle.lists.proofs.Writes.{◌⨾◌}
-use Rattle.bits.proofs.Laws.{length_part}
-use Rattle.llc_rule.specs.Calls.{to_bytes}
-use borrow.Author.Rules.{rules}
 use Rattle.llc_records.proofs.records.put_down.Goals as goal
 
-pub put_number-p-requires : goal.put_number-p-requires
-unfolding to_bytes
-put_number-p-requires c =
-    search rules
-
-pub put_block-p-requires : goal.put_block-p-requires
-unfolding to_bytes
-put_block-p-requires c =
-    search rules
-
-pub put_counted-requires : goal.put_counted-requires
-unfolding to_bytes
-put_counted-requires c =
-    let a = c.args in
-    let size = length_part a.blocks.now a.block a.block_len (omega (arith, c.requires.block_len_bound, c.requires.block_len_in_bounds, c.requires.len_bound, c.requires.len_bound_2, c.requires.len_bound_3, c.requires.len_in_bounds)) in
-    let receipt = c.put_number-p.ensures.next in
-    let block = c.put_block-p.ensures.next in record {
-      len_bound = omega (arith, size, receipt, block, c.requires.block_len_bound, c.requires.block_len_in_bounds, c.requires.len_bound, c.requires.len_bound_2, c.requires.len_bound_3, c.requires.len_in_bounds);
-      len_in_bounds = omega (arith, size, receipt, block, c.requires.block_len_bound, c.requires.block_len_in_bounds, c.requires.len_bound, c.requires.len_bound_2, c.requires.len_bound_3, c.requires.len_in_bounds);
-      len_bound_2 = omega (arith, size, receipt, block, c.requires.block_len_bound, c.requires.block_len_in_bounds, c.requires.len_bound, c.requires.len_bound_2, c.requires.len_bound_3, c.requires.len_in_bounds);
-      len_bound_3 = omega (arith, size, receipt, block, c.requires.block_len_bound, c.requires.block_len_in_bounds, c.requires.len_bound, c.requires.len_bound_2, c.requires.len_bound_3, c.requires.len_in_bounds);
-    }
-
 pub returns : goal.returns
-returns c =
-    let receipt = c.put_number-p.ensures in
-    let block = c.put_block-p.ensures in
-    let pdu = c.put_counted.ensures in
-    receipt ⨾ (block ⨾ pdu)
+returns c = c.put_number-p.ensures ⨾ (c.put_block-p.ensures ⨾ c.put_counted.ensures)

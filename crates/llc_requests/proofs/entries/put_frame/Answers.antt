@@ -1,30 +1,22 @@
-use Rattle.llc_requests.proofs.Stores.{put, length-is, in-range, has_room}
+use Rattle.llc_requests.proofs.Stores.{put, is_written, length-is}
 use Rattle.llc_requests.proofs.entries.put_frame.Goals as goal
 
-pub returns-in-Bits : goal.returns-in-Bits
-returns-in-Bits c =
+-- The call is never refused.
+pub unwrap-requires : goal.unwrap-requires
+unwrap-requires c =
     let d =
-    put c.args.pdu c.args.q c.args.bytes.now c.args.place c.args.store.now c.to_bitbuf.new.out c.to_bitbuf.result
-    c.requires.store_len c.requires.place_lt_store_places c.requires.sdu_len_bound c.requires.request_inside c.to_bitbuf.ensures
+    put c.args.pdu c.args.q.now c.args.place c.args.store.now c.to_bitbuf.new.out c.to_bitbuf.result
+    c.requires.store_len c.requires.place_lt_store_places c.requires.sdu_len_bound c.to_bitbuf.ensures
+    in
+    is_written c.to_bitbuf.result d
+
+pub returns : goal.returns
+returns c =
+    let d =
+    put c.args.pdu c.args.q.now c.args.place c.args.store.now c.to_bitbuf.new.out c.to_bitbuf.result
+    c.requires.store_len c.requires.place_lt_store_places c.requires.sdu_len_bound c.to_bitbuf.ensures
     in
     record {
       store_after = d.store;
-      value = length-is d c.in-Bits.len c.in-Bits.is;
+      value = length-is d _ c.unwrap.ensures;
     }
-
--- The call is never refused.
-pub returns-in-OutOfRange : goal.returns-in-OutOfRange
-returns-in-OutOfRange c =
-    let d =
-    put c.args.pdu c.args.q c.args.bytes.now c.args.place c.args.store.now c.to_bitbuf.new.out c.to_bitbuf.result
-    c.requires.store_len c.requires.place_lt_store_places c.requires.sdu_len_bound c.requires.request_inside c.to_bitbuf.ensures
-    in
-    absurd (in-range d c.in-OutOfRange.is)
-
-pub returns-in-NoRoom : goal.returns-in-NoRoom
-returns-in-NoRoom c =
-    let d =
-    put c.args.pdu c.args.q c.args.bytes.now c.args.place c.args.store.now c.to_bitbuf.new.out c.to_bitbuf.result
-    c.requires.store_len c.requires.place_lt_store_places c.requires.sdu_len_bound c.requires.request_inside c.to_bitbuf.ensures
-    in
-    absurd (has_room d c.in-NoRoom.is)

@@ -6,75 +6,59 @@ use Rattle.bits.specs.Bits.{bits}
 use Rattle.llc_calls.specs.Decoded.{request_of}
 use Rattle.llc_state.specs.declared.State.{State}
 use Rattle.llc_state.proofs.InRange.{range-tells}
-use Rattle.llc_state.proofs.Lengths.{lengths}
 use Rattle.llc_steps.specs.Calls.{row_of}
-use Rattle.llc_queues.specs.Queues.{ack_on}
 use Rattle.llc_requests.proofs.Puts.{allowed, place-below, put-acknowledged}
 use Rattle.llc_requests.proofs.requests.put_acknowledged.Goals as goal
 
-pub out_ack_if_any-ack-requires : goal.out_ack_if_any-ack-requires
-out_ack_if_any-ack-requires c =
-    (range-tells c.args.state c.requires.state_value).head.acks
-
 pub send_seq-seq-requires : goal.send_seq-seq-requires
 send_seq-seq-requires c =
-    (range-tells c.args.state c.requires.state_value).head.rows
+    (range-tells c.args.state.now c.requires.state_value).head.rows
 
-pub data_pdu-pdu-requires : goal.data_pdu-pdu-requires
-data_pdu-pdu-requires c =
-    (range-tells c.args.state c.requires.state_value).head.acks
+pub take_due_ack-due-requires : goal.take_due_ack-due-requires
+take_due_ack-due-requires c =
+    record {
+      n_acks_bound = (range-tells c.args.state.now c.requires.state_value).head.acks;
+      acks_held = c.requires.acks_held;
+    }
 
 pub free_place-place-requires : goal.free_place-place-requires
 free_place-place-requires c =
-    let h = (range-tells c.args.state c.requires.state_value).head in record {
-      n_messages_bound = h.messages;
-      n_udata_bound = h.udata;
+    let h = (range-tells c.args.state.now c.requires.state_value).head in
+    let e = c.take_due_ack-due.ensures.state_after in record {
+      n_messages_bound = rw e h.messages;
+      n_udata_bound = rw e h.udata;
     }
 
 pub put_frame-len-requires : goal.put_frame-len-requires
 put_frame-len-requires c =
-    let h = (range-tells c.args.state c.requires.state_value).head in
-    let a = allowed c.args.q c.requires.q_value in
-    let below = place-below c.args.state (omega (arith, h.udata, c.requires.n_messages_bound)) in record {
+    let h = (range-tells c.args.state.now c.requires.state_value).head in
+    let e = c.take_due_ack-due.ensures.state_after in
+    let messages : State → ℕ = λ (t : State). t.n_messages in
+    let udata : State → ℕ = λ (t : State). t.n_udata in
+    let below = place-below c.take_due_ack-due.new.state (omega (arith, h.udata, ap messages e, ap udata e, c.requires.n_messages_bound)) in record {
       store_len = c.requires.store_len;
       place_lt_store_places = rw c.free_place-place.ensures below;
-      sdu_len_bound = a.sdu;
-      request_inside = c.requires.request_inside;
+      sdu_len_bound = (allowed c.args.q.now c.requires.q_value).sdu;
     }
 
-pub entry_of-e-requires : goal.entry_of-e-requires
-entry_of-e-requires c =
-    record {
-      block_len_bound = (allowed c.args.q c.requires.q_value).block;
-      request_inside = c.requires.request_inside;
-    }
+pub entry_of-requires : goal.entry_of-requires
+entry_of-requires c =
+    (allowed c.args.q.now c.requires.q_value).block
 
-pub take_out_ack-requires : goal.take_out_ack-requires
-take_out_ack-requires c =
-    let p = ack_on c.args.q.ssi c.preferred_carrier-carrier.result in
-    let most = position-within p c.args.state.n_acks c.args.state.scheduled_out_acks in record {
-      i_bound = rw c.out_ack_if_any-ack.ensures most;
-      n_acks_bound = (range-tells c.args.state c.requires.state_value).head.acks;
-    }
+pub push_message-requires : goal.push_message-requires
+push_message-requires c =
+    omega (arith, ap (λ (t : State). t.n_messages) c.take_due_ack-due.ensures.state_after, c.requires.n_messages_bound)
 
-pub push_message-next-requires : goal.push_message-next-requires
-push_message-next-requires c =
-    omega (arith, ap (λ (t : State). t.n_messages) c.take_out_ack.ensures, c.requires.n_messages_bound)
+pub take_receipt-requires : goal.take_receipt-requires
+take_receipt-requires c =
+    (allowed c.args.q.now c.requires.q_value).receipt
 
-pub overflow_cast-q : goal.overflow_cast-q
-overflow_cast-q c =
-    omega (arith, (allowed c.args.q c.requires.q_value).receipt)
-
-pub take_receipt-next-requires : goal.take_receipt-next-requires
-take_receipt-next-requires c =
-    (allowed c.args.q c.requires.q_value).receipt
-
-pub set_send_seq-next-requires : goal.set_send_seq-next-requires
-set_send_seq-next-requires c =
+pub set_send_seq-requires : goal.set_send_seq-requires
+set_send_seq-requires c =
     let rows : State → ℕ = λ (t : State). t.n_rows in
-    let same = ap rows c.take_receipt-next.ensures ∙ ap rows c.push_message-next.ensures ∙ ap rows c.take_out_ack.ensures in
-    let few = (range-tells c.args.state c.requires.state_value).head.rows in
-    let most = position-within (row_of c.args.q.ssi) c.args.state.n_rows c.args.state.link_send_seq in record {
+    let same = ap rows c.take_receipt.ensures ∙ ap rows c.push_message.ensures ∙ ap rows c.take_due_ack-due.ensures.state_after in
+    let few = (range-tells c.args.state.now c.requires.state_value).head.rows in
+    let most = position-within (row_of c.args.q.now.ssi) c.args.state.now.n_rows c.args.state.now.link_send_seq in record {
       i_bound = omega (arith, c.requires.row_value);
       i_bound_2 = c.requires.row_bound;
       n_rows_bound = omega arith;
@@ -84,24 +68,23 @@ pub returns : goal.returns
 unfolding request_of
 returns c =
     put-acknowledged
-    (request_of c.args.q c.args.bytes.now)
-    c.args.state
+    (request_of c.args.q.now)
+    c.args.state.now
     (bits c.args.store.now)
     (bits c.put_frame-len.new.store)
     c.args.row
-    (lengths c.args.state c.well_formed.0)
-    c.requires.state_value
+    c.take_due_ack-due.result
+    c.data_pdu-pdu.result
     c.requires.row_value
     c.preferred_carrier-carrier.ensures
-    c.out_ack_if_any-ack.ensures
     c.send_seq-seq.ensures
+    c.take_due_ack-due.ensures.value
+    c.take_due_ack-due.ensures.state_after
     c.data_pdu-pdu.ensures
     c.free_place-place.ensures
     c.put_frame-len.ensures.store_after
     c.put_frame-len.ensures.value
-    c.entry_of-e.ensures
-    c.take_out_ack.ensures
-    c.push_message-next.ensures
-    c.take_receipt-next.ensures
-    c.set_send_seq-next.ensures
-    c.accepted.ensures
+    c.entry_of.ensures
+    c.push_message.ensures
+    c.take_receipt.ensures
+    c.set_send_seq.ensures

@@ -1,132 +1,121 @@
+use Prim.Native.Nat.{◌≤◌}
 use native.Mathlib.Omega.{arith}
+use lib.ListN.{length}
+use Rattle.std.proofs.lemmas.Bool.Decides.{nat_tests}
+use Rattle.std.proofs.lemmas.Result.{err_from_is_err_and}
 use Rattle.bits.specs.Bits.{bits}
 use Rattle.llc_calls.specs.Decoded.{request_of}
 use Rattle.llc_state.proofs.InRange.{range-tells}
-use Rattle.llc_state.proofs.Lengths.{lengths}
-use Rattle.llc_requests.proofs.Asked.{as-asked, refuses, data-6, data-7, data-8, data-acknowledged, data-full, data-plain, data-stolen, data-undue}
+use Rattle.llc_requests.proofs.Asked.{as-asked, refuses, data-6, data-7, row-is, data-8, data-acknowledged, data-full, data-with, data-without, Stolen, stolen-due, none-stolen}
+use Rattle.llc_requests.proofs.Due.{held-then}
 use Rattle.llc_requests.proofs.Puts.{allowed}
 use Rattle.llc_requests.proofs.requests.rx_tla_tldata_req_bl.Goals as goal
-use Rattle.llc_requests.proofs.requests.rx_tla_tldata_req_bl.Goals.{then-steals+else-ack-state, else-steals}
+use Rattle.llc_requests.proofs.requests.rx_tla_tldata_req_bl.Goals.{then-steals, else-steals}
 
 pub bounds-state-q : goal.bounds-state-q
 bounds-state-q c =
-    (allowed c.args.q c.requires.q_value).receipt
+    (allowed c.args.q.now c.requires.q_value).receipt
 
 pub returns-then-state-q : goal.returns-then-state-q
 unfolding request_of
 returns-then-state-q c =
-    let r = request_of c.args.q c.args.bytes.now in
-    let b = bits c.args.store.now in
-    refuses 6 b (data-6 r c.args.state b c.if-state-q.true) c.refused.ensures
+    refuses (data-6 (request_of c.args.q.now) c.args.state.now (bits c.args.store.now) c.if-state-q.true)
 
-pub send_seq_row-row-requires : goal.send_seq_row-row-requires
-send_seq_row-row-requires c =
-    (range-tells c.args.state c.requires.state_value).head.rows
+pub send_seq_row-requires : goal.send_seq_row-requires
+send_seq_row-requires c =
+    (range-tells c.args.state.now c.requires.state_value).head.rows
 
-pub returns-then-row-ge256 : goal.returns-then-row-ge256
+pub returns-in_err-row : goal.returns-in_err-row
 unfolding request_of
-returns-then-row-ge256 c =
-    let r = request_of c.args.q c.args.bytes.now in
-    let b = bits c.args.store.now in
-    refuses 7 b
-    (data-7 r c.args.state b c.if-state-q.false c.if-q-steals.true (lengths c.args.state c.well_formed.0) c.requires.state_value
-    c.send_seq_row-row.ensures c.if-row-ge256.true)
-    c.refused-then-row-ge256.ensures
+returns-in_err-row c =
+    let p = err_from_is_err_and c.from_residual.result c.from_residual.ensures.1 in
+    rw (p.1, p.2)
+    (refuses (data-7 (request_of c.args.q.now) c.args.state.now (bits c.args.store.now) c.if-state-q.false (grind (arith, nat_tests))
+    c.in_err-row.field-0.0 c.in_err-row.ensures.place))
 
 pub returns-then-state-ge64 : goal.returns-then-state-ge64
 unfolding request_of
 returns-then-state-ge64 c =
-    let r = request_of c.args.q c.args.bytes.now in
-    let b = bits c.args.store.now in
-    refuses 8 b
-    (data-8 r c.args.state b c.if-state-q.false c.if-q-steals.true (lengths c.args.state c.well_formed.0) c.requires.state_value
-    c.send_seq_row-row.ensures c.if-row-ge256.false c.if-state-ge64.true)
-    c.refused-then-state-ge64.ensures
+    refuses
+    (data-8 (request_of c.args.q.now) c.args.state.now (bits c.args.store.now) c.if-state-q.false (grind (arith, nat_tests))
+    c.in_ok-row.ensures.place (omega arith))
 
 pub put_acknowledged-requires : goal.put_acknowledged-requires
+unfolding request_of
 put_acknowledged-requires c =
     record {
       state_value = c.requires.state_value;
       store_len = c.requires.store_len;
       q_value = c.requires.q_value;
-      request_inside = c.requires.request_inside;
-      row_value = c.send_seq_row-row.ensures;
-      row_bound = c.if-row-ge256.false;
-      n_messages_bound = c.if-state-ge64.false;
+      row_value = row-is (request_of c.args.q.now) c.args.state.now (bits c.args.store.now) c.if-state-q.false (grind (arith, nat_tests)) c.in_ok-row.ensures.place;
+      row_bound = c.in_ok-row.ensures.bound.1;
+      acks_held = omega (arith, (range-tells c.args.state.now c.requires.state_value).head.acks);
+      n_messages_bound = omega arith;
     }
 
-pub returns-then-q-steals : goal.returns-then-q-steals
+pub returns-then-not-steals : goal.returns-then-not-steals
 unfolding request_of
-returns-then-q-steals c =
-    let r = request_of c.args.q c.args.bytes.now in
-    let b = bits c.args.store.now in
+returns-then-not-steals c =
     as-asked
-    (data-acknowledged r c.args.state b c.if-state-q.false c.if-q-steals.true (lengths c.args.state c.well_formed.0) c.requires.state_value
-    c.send_seq_row-row.ensures c.if-row-ge256.false c.if-state-ge64.false)
+    (data-acknowledged (request_of c.args.q.now) c.args.state.now (bits c.args.store.now) c.if-state-q.false (grind (arith, nat_tests))
+    c.in_ok-row.ensures.place (omega arith))
     c.put_acknowledged.ensures
 
 pub returns-then-state-ge32 : goal.returns-then-state-ge32
 unfolding request_of
 returns-then-state-ge32 c =
-    let r = request_of c.args.q c.args.bytes.now in
-    let b = bits c.args.store.now in
-    refuses 8 b (data-full r c.args.state b c.if-state-q.false c.if-q-steals.false c.if-state-ge32.true) c.refused-then-state-ge32.ensures
+    refuses
+    (data-full (request_of c.args.q.now) c.args.state.now (bits c.args.store.now) c.if-state-q.false (grind (arith, nat_tests)) c.if-state-ge32.true)
 
-pub out_ack_if_any-ack-requires : goal.out_ack_if_any-ack-requires
-out_ack_if_any-ack-requires c =
-    (range-tells c.args.state c.requires.state_value).head.acks
-
-pub offset_bounds-state-ack : goal.offset_bounds-state-ack
-offset_bounds-state-ack c =
-    omega (arith, (range-tells c.args.state c.requires.state_value).head.acks, c.if-ack-state.true)
-
-pub bounds-state-ack : goal.bounds-state-ack
-bounds-state-ack c =
-    omega (arith, (range-tells c.args.state c.requires.state_value).head.acks, c.if-ack-state.true)
-
-pub put_unacknowledged-requires : goal.put_unacknowledged-requires
-put_unacknowledged-requires c =
-    record {
-      state_value = c.requires.state_value;
-      store_len = c.requires.store_len;
-      q_value = c.requires.q_value;
-      request_inside = c.requires.request_inside;
-      n_udata_bound = c.if-state-ge32.false;
-      ack_bound = omega (arith, c.if-ack-state.true);
+pub take_due_ack-due-requires : goal.take_due_ack-due-requires
+take_due_ack-due-requires c =
+    let h = (range-tells c.args.state.now c.requires.state_value).head in record {
+      n_acks_bound = h.acks;
+      acks_held = omega (arith, h.acks);
     }
 
-pub returns-then-ack-state : goal.returns-then-ack-state
-unfolding request_of
-returns-then-ack-state c =
-    let r = request_of c.args.q c.args.bytes.now in
-    let b = bits c.args.store.now in
-    as-asked
-    (data-stolen r c.args.state b c.if-state-q.false c.if-q-steals.false c.if-state-ge32.false c.if-steals.true-raw
-    c.preferred_carrier-carrier.ensures c.out_ack_if_any-ack.ensures (lengths c.args.state c.well_formed.0) c.requires.state_value c.if-ack-state.true)
-    c.put_unacknowledged.ensures
+pub put_unacknowledged-requires-clause-n_messages_bound : goal.put_unacknowledged-requires-clause-n_messages_bound
+put_unacknowledged-requires-clause-n_messages_bound c =
+    grind (arith, (range-tells c.args.state.now c.requires.state_value).head.messages)
 
-pub put_unacknowledged-requires-2 : goal.put_unacknowledged-requires-2
-put_unacknowledged-requires-2 c =
-    record {
-      state_value = c.requires.state_value;
-      store_len = c.requires.store_len;
-      q_value = c.requires.q_value;
-      request_inside = c.requires.request_inside;
-      n_udata_bound = c.if-state-ge32.false;
-      ack_bound = omega arith;
-    }
+pub put_unacknowledged-requires-in-None-clause-n_messages_bound : goal.put_unacknowledged-requires-in-None-clause-n_messages_bound
+put_unacknowledged-requires-in-None-clause-n_messages_bound c =
+    grind (arith, (range-tells c.args.state.now c.requires.state_value).head.messages)
 
-pub returns : goal.returns
+pub put_unacknowledged-requires-in-None-clause-acks_held : goal.put_unacknowledged-requires-in-None-clause-acks_held
+put_unacknowledged-requires-in-None-clause-acks_held c =
+    grind (arith, (range-tells c.args.state.now c.requires.state_value).head.acks, held-then)
+
+pub returns-in-Some : goal.returns-in-Some
 unfolding request_of
-returns c =
-    let r = request_of c.args.q c.args.bytes.now in
-    let b = bits c.args.store.now in
+returns-in-Some c =
+    let s = c.args.state.now in
+    let r = request_of c.args.q.now in
+    let few : s.n_acks ≤ length s.scheduled_out_acks = omega (arith, (range-tells s c.requires.state_value).head.acks) in
+    let d : Stolen r s c.if-steals.due c.if-steals.state =
+    elim c.if-steals.branch [
+      | then-steals w ↦ rw (w.due-is, w.state-is)
+          (stolen-due r s w.take_due_ack-due.result c.steals-2.ensures w.if-steals.true w.take_due_ack-due.ensures.value w.take_due_ack-due.ensures.state_after)
+      | else-steals w ↦ rw (w.due-is, w.state-is) (none-stolen r s c.steals-2.ensures w.if-steals.false few)
+    ]
+    in
     as-asked
-    (elim c.if-steals.branch [
-      | then-steals+else-ack-state w ↦
-          data-undue r c.args.state b c.if-state-q.false c.if-q-steals.false c.if-state-ge32.false
-          w.if-steals.true-raw w.preferred_carrier-carrier.ensures w.out_ack_if_any-ack.ensures w.if-ack-state.false
-      | else-steals w ↦
-          data-plain r c.args.state b c.if-state-q.false c.if-q-steals.false c.if-state-ge32.false w.if-steals.false-raw
-    ])
-    c.put_unacknowledged-2.ensures
+    (data-with r s (bits c.args.store.now) c.if-state-q.false (grind (arith, nat_tests)) c.if-state-ge32.false d.left (rw c.in-Some.is at d.value))
+    (rw c.wants_fcs.ensures at c.put_unacknowledged.ensures)
+
+pub returns-in-None : goal.returns-in-None
+unfolding request_of
+returns-in-None c =
+    let s = c.args.state.now in
+    let r = request_of c.args.q.now in
+    let few : s.n_acks ≤ length s.scheduled_out_acks = omega (arith, (range-tells s c.requires.state_value).head.acks) in
+    let d : Stolen r s c.if-steals.due c.if-steals.state =
+    elim c.if-steals.branch [
+      | then-steals w ↦ rw (w.due-is, w.state-is)
+          (stolen-due r s w.take_due_ack-due.result c.steals-2.ensures w.if-steals.true w.take_due_ack-due.ensures.value w.take_due_ack-due.ensures.state_after)
+      | else-steals w ↦ rw (w.due-is, w.state-is) (none-stolen r s c.steals-2.ensures w.if-steals.false few)
+    ]
+    in
+    as-asked
+    (data-without r s (bits c.args.store.now) c.if-state-q.false (grind (arith, nat_tests)) c.if-state-ge32.false d.left (rw c.in-None.is at d.value))
+    c.put_unacknowledged-in-None.ensures

@@ -1,53 +1,60 @@
-use Rattle.lists.proofs.Writes.{as_long}
-use Rattle.llc_state.proofs.Lengths.{lengths}
-use Rattle.llc_tick_end.proofs.FreeMessages.{begins, in-range, is-under-way, waits, room, is-sent, left-state, all-written}
+use mathlib.Core.Path.{◌∙◌, ap₂}
+use lib.ListN.{set}
+use Rattle.lists.proofs.Std.{any-list}
+use Rattle.llc_state.specs.declared.Entry.{Entry}
+use Rattle.llc_state.specs.declared.State.{State}
+use Rattle.llc_tick_end.proofs.Entries.{receipt-fits}
+use Rattle.llc_tick_end.proofs.FreeMessages.{begins, at-join, in-range, is-under-way, waits, room, is-sent, left-state, all-written}
+use Rattle.llc_tick_end.proofs.Retransmitting.{with_arrays}
 use Rattle.llc_tick_end.proofs.free_messages.submit_free_messages_to_umac.Goals as goal
+use Rattle.llc_tick_end.proofs.free_messages.submit_free_messages_to_umac.Goals.{then-not-message+else-contains, else-not-message}
 
 pub loop-i-init : goal.loop-i-init
 loop-i-init c =
-    begins c.requires.n_messages_bound (lengths c.args.state c.well_formed.0).messages
+    begins c.requires.n_messages_bound c.requires.messages_len
 
-pub loop-i-preserved-then-state-m : goal.loop-i-preserved-then-state-m
-loop-i-preserved-then-state-m c =
-    is-under-way c.loop-i.invariant _ c.loop-i-test.true c.if-state-m.true
-
-pub loop-i-preserved-then-is_blocked : goal.loop-i-preserved-then-is_blocked
-loop-i-preserved-then-is_blocked c =
-    waits c.loop-i.invariant _ c.loop-i-test.true c.if-state-m.false c.is_blocked.ensures c.if-is_blocked.true
+pub loop-i-preserved-then-contains : goal.loop-i-preserved-then-contains
+loop-i-preserved-then-contains c =
+    waits c.loop-i.invariant _ c.loop-i-test.true c.if-not-message.true (c.contains.ensures.value ∙ any-list _ _) c.if-contains.true
 
 pub put_message-at-requires : goal.put_message-at-requires
 put_message-at-requires c =
     let inv = c.loop-i.invariant in
     let test = c.loop-i-test.true in
-    let e = in-range inv _ test c.requires.state_value in
-    let fits = room inv _ test c.if-state-m.false c.is_blocked.ensures c.if-is_blocked.false c.requires.state_in_bounds in record {
+    let e = in-range inv _ test c.requires.in_range in
+    let fits = room inv _ test c.if-not-message.true (c.contains.ensures.value ∙ any-list _ _) c.if-contains.false c.requires.room in record {
       store_len = c.requires.store_len;
-      block_len_bound = e.block;
-      place_lt_store_places = e.place;
-      len_le_longest_sent = e.len;
-      e_in_bounds = fits;
+      block_len = e.block;
+      place = e.place;
+      frame_len = e.len;
+      room = fits;
     }
 
-pub bounds-state-receipt : goal.bounds-state-receipt
-bounds-state-receipt c =
-    (in-range c.loop-i.invariant _ c.loop-i-test.true c.requires.state_value).receipt
+pub overflow_cast-receipt : goal.overflow_cast-receipt
+overflow_cast-receipt c =
+    receipt-fits (in-range c.loop-i.invariant _ c.loop-i-test.true c.requires.in_range)
 
-pub bounds-state-receipt-in-loop-i : goal.bounds-state-receipt-in-loop-i
-bounds-state-receipt-in-loop-i c =
-    (in-range c.loop-i.invariant _ c.loop-i-test.true c.requires.state_value).receipt
+pub mark_receipt-requires : goal.mark_receipt-requires
+mark_receipt-requires c =
+    (in-range c.loop-i.invariant _ c.loop-i-test.true c.requires.in_range).receipt
 
 pub loop-i-preserved : goal.loop-i-preserved
 loop-i-preserved c =
-    is-sent c.loop-i.invariant _ c.loop-i-test.true c.if-state-m.false c.is_blocked.ensures c.if-is_blocked.false
-    c.put_message-at.ensures c.reset.ensures
-
-pub shape_of-out : goal.shape_of-out
-shape_of-out c =
-    as_long c.loop-i.invariant.wrote
+    let inv = c.loop-i.invariant in
+    let test = c.loop-i-test.true in
+    elim c.if-not-message.branch [
+      | then-not-message+else-contains w ↦
+          at-join
+          (w.state-is ∙ ap₂ (λ (t : State) (x : Entry). with_arrays t (set t.outbound_messages c.loop-i.i x) t.receipts) w.mark_receipt.ensures w.submitted.ensures)
+          w.out-is w.at-is
+          (is-sent inv _ test w.if-not-message.true (w.contains.ensures.value ∙ any-list _ _) w.if-contains.false w.put_message-at.ensures)
+      | else-not-message w ↦
+          at-join w.state-is w.out-is w.at-is (is-under-way inv _ test w.if-not-message.false)
+    ]
 
 pub returns : goal.returns
 returns c =
     record {
-      state_value_2 = left-state c.loop-i.invariant c.loop-i-test.false;
+      after = left-state c.loop-i.invariant c.loop-i-test.false;
       wrote = all-written c.loop-i.invariant c.loop-i-test.false;
     }

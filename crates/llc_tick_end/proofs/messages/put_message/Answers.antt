@@ -1,73 +1,59 @@
-use Prim.Native.Nat.{ℕ, ◌*◌}
+use Prim.Native.Nat.{ℕ, ◌-◌, ◌*◌}
 use native.Mathlib.Omega.{arith}
-use mathlib.Core.Path.{◌≡◌, refl, ap}
+use mathlib.Core.Path.{◌≡◌, ◌∙◌, refl, sym, ap}
 use mathlib.Core.Bool.{Bool, true, false, cond}
 use mathlib.Core.List.{List}
 use mathlib.Core.Option.{none, some}
-use denote.Laws.{Is}
-use denote.Struct.Declared.{row}
-use denote.Struct.Laws as S
-use lib.ListN.{length}
+use lib.ListN.{length, take, drop, length-drop}
+use lib.Seq.{take_all}
+use Rattle.std.specs.Prelude as Code
+use Rattle.std.specs.Bool.{then_some}
 use Rattle.lists.proofs.Writes.{same_bytes}
-use Rattle.bits.specs.Bits.{bits, part}
-use Rattle.llc_rule.specs.Limits.{place_bits}
+use Rattle.bits.specs.Bits.{bits}
+use Rattle.bits.proofs.Laws.{drop_bits}
+use Rattle.llc_rule.specs.Limits.{place_bytes}
 use Rattle.llc_rule.specs.Records.{sent_bytes}
-use Rattle.llc_records.specs.Records.{mask_if, sent}
-use Rattle.llc_records.specs.declared.SentRecord.{SentRecord}
-use Rattle.llc_state.specs.View.{place_bit, frame_at, sent_in}
-use Rattle.llc_state.specs.declared.TmaUnitdataReq.{TmaUnitdataReq}
+use Rattle.llc_records.specs.Records.{mask_of}
+use Rattle.llc_state.specs.View.{place_bit, frame_at, sent_with, sent_in}
 use Rattle.llc_state.specs.declared.Entry.{Entry}
-use Rattle.llc_state.specs.contracts.Entry.{the_type}
-use Rattle.llc_state.proofs.Entry.TheLaws.{the_laws}
 use Rattle.llc_tick_end.proofs.messages.put_message.Goals as goal
 
--- How long the array of a block is.
-block-long : (e : Entry) → Is (row the_type) e (S.vals the_type the_laws e) → length e.sent.block ≡ 64
-block-long e p =
-    let sent = p.1.1.0.1.1 in
-    sent.1.1.1.1.1.1.1.1.1.1.1.0.1.0.1
+mask-is : (has : Bool) (m : ℕ) → mask_of (then_some has m) ≡ cond has (some m) none
+mask-is true m = refl
+mask-is false m = refl
 
--- What is taken of a message, and that it is the message.
-abbrev sent_of : TmaUnitdataReq → SentRecord
-sent_of r =
-    record {
-      ssi = r.ssi;
-      ssi_type = r.ssi_type;
-      carrier = r.carrier_num;
-      link = r.link_id;
-      endpoint = r.endpoint_id;
-      handle = r.req_handle;
-      steal = r.stealing_permission;
-      has_mask = r.has_mask;
-      mask = r.mask;
-      receipt = r.receipt;
-    }
+-- The bits of a message's frame, as the bytes from its place on hold them.
+abbrev from_place : List ℕ → Entry → List ℕ
+from_place store e =
+    let at = e.frame.place * place_bytes in take e.frame.len (bits (take (length store - at) (drop at store)))
 
-mask_is : (has : Bool) (m : ℕ) → mask_if has m ≡ cond has (some m) none
-mask_is true m = refl
-mask_is false m = refl
+frame-is : (store : List ℕ) (e : Entry) → from_place store e ≡ frame_at (bits store) e
+unfolding frame_at
+frame-is store e =
+    let at = e.frame.place * place_bytes in
+    let place : 8 * at ≡ place_bit e.frame.place = omega arith in
+    ap (λ (t : List ℕ). take e.frame.len t)
+    (ap bits (take_all (length store - at) (drop at store) (omega (arith, length-drop at store)))
+    ∙ sym (drop_bits at store)
+    ∙ ap (λ (n : ℕ). drop n (bits store)) place)
 
+-- A message with what is taken of it.
 message-is :
-    (k : ℕ) (store : List ℕ) (e : Entry)
-    → sent_bytes k (sent (sent_of e.sent) (part e.sent.block 0 e.sent.block_len) (part store (e.frame.place * place_bits) e.frame.len))
-    ≡ sent_bytes k (sent_in store e)
-unfolding sent_in frame_at
-message-is k store e =
-    let place : e.frame.place * place_bits ≡ place_bit e.frame.place = omega arith in
-    rw (place, mask_is e.sent.has_mask e.sent.mask)
+    (k : ℕ) (store : List ℕ) (e : Entry) {mask : Code.Option ℕ}
+    → mask ≡ then_some e.sent.has_mask e.sent.mask
+    → sent_bytes k (record (sent_with (from_place store e) e.sent) { mask = mask_of mask }) ≡ sent_bytes k (sent_in (bits store) e)
+unfolding sent_in
+message-is k store e p =
+    λ i.
+    sent_bytes k
+    (record (sent_with (frame-is store e i) e.sent) {
+      mask = (ap (λ (m : Code.Option ℕ). mask_of m) p ∙ mask-is e.sent.has_mask e.sent.mask) i;
+    })
 
-pub put_sent-requires : goal.put_sent-requires
-put_sent-requires c =
-    let size = ap length (message-is c.args.kind (bits c.args.store.now) c.args.e) in
-    let block = block-long c.args.e c.well_formed.1.1.1.0 in record {
-      block_len_bound = omega (arith, c.requires.store_len, c.requires.block_len_bound, c.requires.place_lt_store_places, c.requires.len_le_longest_sent, c.requires.e_in_bounds, size, block);
-      block_len_in_bounds = omega (arith, c.requires.store_len, c.requires.block_len_bound, c.requires.place_lt_store_places, c.requires.len_le_longest_sent, c.requires.e_in_bounds, size, block);
-      len_bound = omega (arith, c.requires.store_len, c.requires.block_len_bound, c.requires.place_lt_store_places, c.requires.len_le_longest_sent, c.requires.e_in_bounds, size, block);
-      len_bound_2 = omega (arith, c.requires.store_len, c.requires.block_len_bound, c.requires.place_lt_store_places, c.requires.len_le_longest_sent, c.requires.e_in_bounds, size, block);
-      len_bound_3 = omega (arith, c.requires.store_len, c.requires.block_len_bound, c.requires.place_lt_store_places, c.requires.len_le_longest_sent, c.requires.e_in_bounds, size, block);
-      len_in_bounds = omega (arith, c.requires.store_len, c.requires.block_len_bound, c.requires.place_lt_store_places, c.requires.len_le_longest_sent, c.requires.e_in_bounds, size, block);
-    }
+pub put_sent-requires-clause-len_in_bounds : goal.put_sent-requires-clause-len_in_bounds
+put_sent-requires-clause-len_in_bounds c =
+    rw (message-is c.args.kind c.args.store.now c.args.e.now c.then_some.ensures) c.requires.room
 
 pub returns : goal.returns
 returns c =
-    same_bytes (message-is c.args.kind (bits c.args.store.now) c.args.e) c.put_sent.ensures
+    same_bytes (message-is c.args.kind c.args.store.now c.args.e.now c.then_some.ensures) c.put_sent.ensures

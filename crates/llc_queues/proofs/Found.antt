@@ -1,0 +1,60 @@
+-- Searches by the words of iterators, and by the link's own.
+use Prim.Native.Nat.{ℕ, ◌<◌, ◌≤◌}
+use mathlib.Core.Path.{◌≡◌, ◌∙◌, sym, ap}
+use mathlib.Core.Bool.{Bool, true, false, ◌||◌}
+use borrow.Author.Tests.{lt-ltb, le-ltb}
+use lib.ListN.{length}
+use Rattle.std.specs.Prelude as Prelude
+use Rattle.std.specs.Prelude.{Some, None}
+use Rattle.std.specs.List.{list_any}
+use Rattle.lists.specs.Arrays.{position}
+use Rattle.lists.proofs.Choices.{clash}
+use Rattle.lists.proofs.Std.{any-list, position-some, position-none}
+use Rattle.questions.specs.Outcome.{accepted, refused, ask}
+use Rattle.llc_state.specs.declared.State.{State}
+use Rattle.llc_steps.specs.States.{messages_of, udata_of, rows_of}
+use Rattle.llc_steps.specs.Calls.{held, waits, row_of, row_for}
+use Rattle.llc_queues.specs.Queues.{with_receipt, waits_with}
+
+-- Either of two tests, where the first passes, and where it fails.
+pub or-then : (x y : Bool) {a v : Bool} → x || y ≡ v → a ≡ x → a ≡ true → a ≡ v
+or-then true y e h t = h ∙ e
+or-then false y e h t = clash t h
+
+pub or-else : (x y : Bool) {a b v : Bool} → x || y ≡ v → a ≡ x → a ≡ false → b ≡ y → b ≡ v
+or-else true y e h f k = clash h f
+or-else false y e h f k = k ∙ e
+
+pub held-by : (i : ℕ) (s : State) → list_any (with_receipt i) (messages_of s) || list_any (with_receipt i) (udata_of s) ≡ held i s
+unfolding held
+held-by i s = rw (any-list (with_receipt i) (messages_of s), any-list (with_receipt i) (udata_of s))
+
+pub waits-by : (i : ℕ) (s : State) → list_any (waits_with i) (messages_of s) || list_any (with_receipt i) (udata_of s) ≡ waits i s
+unfolding waits
+waits-by i s = rw (any-list (waits_with i) (messages_of s), any-list (with_receipt i) (udata_of s))
+
+-- The row of an SSI, a free one for an SSI without a row, and none.
+pub row-there :
+    (a : ℕ) (s : State) {i : ℕ}
+    → Prelude.position (row_of a) (rows_of s) ≡ Some i
+    → accepted i ≡ ask 7 (row_for a s) (accepted (position (row_of a) (rows_of s)))
+unfolding row_for
+row-there a s e = let t = position-some (row_of a) (rows_of s) e in rw t.0 (ap accepted t.1)
+
+pub row-behind :
+    (a : ℕ) (s : State)
+    → Prelude.position (row_of a) (rows_of s) ≡ None
+    → length (rows_of s) ≡ s.n_rows
+    → s.n_rows < 256
+    → accepted s.n_rows ≡ ask 7 (row_for a s) (accepted (position (row_of a) (rows_of s)))
+unfolding row_for
+row-behind a s e n h =
+    let t = position-none (row_of a) (rows_of s) e in rw (t.0, lt-ltb s.n_rows 256 h) (ap accepted (sym n ∙ sym t.1))
+
+pub row-none :
+    (a : ℕ) (s : State)
+    → Prelude.position (row_of a) (rows_of s) ≡ None
+    → 256 ≤ s.n_rows
+    → refused 7 ≡ ask 7 (row_for a s) (accepted (position (row_of a) (rows_of s)))
+unfolding row_for
+row-none a s e h = rw ((position-none (row_of a) (rows_of s) e).0, le-ltb s.n_rows 256 h)
