@@ -3,6 +3,8 @@ use Prim.Native.Nat.{ℕ, zero, suc, ◌+◌, ◌-◌, ◌*◌, ◌/◌, ◌^◌
 use native.Mathlib.Omega.{arith}
 use mathlib.Core.Path.{◌≡◌, ◌∙◌, refl, sym, ap}
 use mathlib.Core.List.{List}
+use mir.Val.{bool_byte}
+use Rattle.std.specs.Prelude.{Bool, true, false, cond}
 use lib.ListN.{length, drop, replicate, length-replicate, replicate-append-replicate}
 use lib.Seq.{drop_at}
 use Rattle.bits.specs.Bits.{to_bits, bits, splice}
@@ -31,6 +33,15 @@ lowest-alike b h bit few =
     ∙ ap (λ (n : ℕ). replicate n b) (sym all)
     ∙ sym (replicate-append-replicate k h b))
     ∙ drop_at (replicate k b) (replicate h b) k (length-replicate k b)
+
+-- A flag is one bit.
+pub few : (b : Bool) → cond b 1 0 < 2
+few true = omega arith
+few false = omega arith
+
+pub as_bit : (b : Bool) → bool_byte b ≡ cond b 1 0
+as_bit true = refl
+as_bit false = refl
 
 -- The bytes l were l₀; done bits b are written from a place on.
 pub record Filling (l₀ : List ℕ) (at b : ℕ) (l : List ℕ) (done : ℕ) : Type 0 where

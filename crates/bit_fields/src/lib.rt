@@ -2,8 +2,11 @@
 // field, places count from the field's first byte.
 #![tactic(auto)]
 
-ghost use Rattle.std.specs.Prelude.{◌+◌, ◌-◌, ◌*◌, ◌/◌, ◌%◌, ◌^◌, ◌≤◌, ◌<◌, ◌≡◌, ◌++◌, length, replicate};
+ghost use Rattle.std.specs.Prelude.{◌+◌, ◌-◌, ◌*◌, ◌/◌, ◌%◌, ◌^◌, ◌≤◌, ◌<◌, ◌≡◌, ◌++◌, cond, length, replicate};
 ghost use Rattle.bits.specs.Bits.{to_bits, value, bits, part, splice};
+ghost use Rattle.bits.specs.Parts.{bits_of};
+
+use bits::Part;
 
 /// The number that n bits from a place on spell.
 pub fn get(bytes: &[u8], at: usize, n: usize) -> u64
@@ -66,13 +69,12 @@ fn put_from(bytes: &mut [u8], first: usize, place: usize, n: usize, v: u64)
 }
 
 /// Puts n times a bit at a place, by up to 64 at once.
-pub fn fill(bytes: &mut [u8], at: usize, n: usize, bit: u64)
-    requires bit_bound { bit < 2 }
+pub fn fill(bytes: &mut [u8], at: usize, n: usize, bit: bool)
     requires n_bound { at + n ≤ 8 * length bytes.old }
     requires n_bound_2 { at + n < 2 ^ 64 }
-    ensures { bits bytes.new ≡ splice (bits bytes.old) at (replicate n bit) }
+    ensures { bits bytes.new ≡ splice (bits bytes.old) at (replicate n (cond bit 1 0)) }
 {
-    let pattern = bit * 18_446_744_073_709_551_615;
+    let pattern = u64::from(bit) * u64::MAX;
     let whole = n / 64;
     for i in 0..whole {
         put(bytes, at + 64 * i, 64, pattern);
@@ -80,59 +82,55 @@ pub fn fill(bytes: &mut [u8], at: usize, n: usize, bit: u64)
     put(bytes, at + 64 * whole, n - 64 * whole, pattern);
 }
 
-/// Puts n bits of src from a place on at a place of dst: up to the next whole byte, whole bytes, and what is left.
-pub fn copy(src: &[u8], from: usize, dst: &mut [u8], at: usize, n: usize)
-    requires n_bound { from + n ≤ 8 * length src.now }
-    requires n_bound_2 { from + n < 2 ^ 64 }
-    requires n_bound_3 { at + n ≤ 8 * length dst.old }
-    requires n_bound_4 { at + n < 2 ^ 64 }
-    ensures { bits dst.new ≡ splice (bits dst.old) at (part (bits src.now) from n) }
+/// Puts the bits of src at a place of dst: up to the next whole byte, whole bytes, and what is left.
+pub fn copy(src: Part, dst: &mut [u8], at: usize)
+    requires len_bound { at + src.len ≤ 8 * length dst.old }
+    requires len_bound_2 { at + src.len < 2 ^ 64 }
+    ensures { bits dst.new ≡ splice (bits dst.old) at (bits_of src.entry) }
 {
     let room = 8 - at % 8;
-    if n <= room {
-        copy_field(src, from, dst, at, n);
+    if src.len <= room {
+        copy_field(src, dst, at);
         return;
     }
-    copy_field(src, from, dst, at, room);
-    let k = (n - room) / 8;
-    copy_bytes(src, from + room, dst, at / 8 + 1, k);
-    let done = room + 8 * k;
-    copy_field(src, from + done, dst, at + done, n - done);
+    copy_field(src.before(room), dst, at);
+    let rest = src.behind(room);
+    let q = at / 8 + 1;
+    let k = rest.len / 8;
+    copy_bytes(rest.before(8 * k), &mut dst[q..q + k]);
+    copy_field(rest.behind(8 * k), dst, 8 * (q + k));
 }
 
 // The same for up to 64 bits.
-fn copy_field(src: &[u8], from: usize, dst: &mut [u8], at: usize, n: usize)
-    requires n_bound { n ≤ 64 }
-    requires n_bound_2 { from + n ≤ 8 * length src.now }
-    requires n_bound_3 { at + n ≤ 8 * length dst.old }
-    ensures { bits dst.new ≡ splice (bits dst.old) at (part (bits src.now) from n) }
+fn copy_field(src: Part, dst: &mut [u8], at: usize)
+    requires len_bound { src.len ≤ 64 }
+    requires len_bound_2 { at + src.len ≤ 8 * length dst.old }
+    ensures { bits dst.new ≡ splice (bits dst.old) at (bits_of src.entry) }
 {
-    put(dst, at, n, get(src, from, n));
+    put(dst, at, src.len, get(src.bytes, src.place, src.len));
 }
 
-/// The same for k whole bytes of dst from byte q on.
-pub fn copy_bytes(src: &[u8], from: usize, dst: &mut [u8], q: usize, k: usize)
-    requires k_bound { from + 8 * k ≤ 8 * length src.now }
-    requires k_in_bounds { q + k ≤ length dst.old }
-    ensures { bits dst.new ≡ splice (bits dst.old) (8 * q) (part (bits src.now) from (8 * k)) }
+/// Puts the bits of src in place of all of dst, whose bytes they fill.
+pub fn copy_bytes(src: Part, dst: &mut [u8])
+    requires { src.len ≡ 8 * length dst.old }
+    ensures { bits dst.new ≡ bits_of src.entry }
 {
-    let first = from / 8;
-    let s = from % 8;
-    for i in 0..k {
-        dst[q + i] = byte_at(src, first + i, s);
+    for (i, b) in dst.iter_mut().enumerate() {
+        *b = byte(src, i);
     }
 }
 
-// The eight bits from place s of byte q on.
-fn byte_at(bytes: &[u8], q: usize, s: usize) -> u8
-    requires s_bound { s < 8 }
-    requires s_bound_2 { 8 * q + s + 8 ≤ 8 * length bytes.now }
-    ensures { to_bits 8 result ≡ part (bits bytes.now) (8 * q + s) 8 }
+/// Byte i of a part: the eight bits from bit 8 * i on.
+pub fn byte(src: Part, i: usize) -> u8
+    requires { 8 * i + 8 ≤ src.len }
+    ensures { to_bits 8 result ≡ part (bits_of src.entry) (8 * i) 8 }
 {
-    if s == 0 {
-        return bytes[q];
+    let first = src.bytes[i];
+    if src.place == 0 {
+        return first;
     }
-    (joined(bytes[q] as u64, s, piece(bytes[q + 1], 8 - s, s)) % 256) as u8
+    let two = first as u16 * 256 + src.bytes[i + 1] as u16;
+    ((two >> (8 - src.place)) % 256) as u8
 }
 
 // A byte with h bits of x in place of those above its s lowest.

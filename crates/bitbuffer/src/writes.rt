@@ -1,5 +1,5 @@
 // Writes: every question is asked first, and a refusal changes nothing.
-ghost use Rattle.std.specs.Prelude.{◌+◌, ◌*◌, ◌^◌, ◌≤◌, ◌<◌, ◌≡◌, ◌&&◌, leb, ltb, length, replicate, OnOk};
+ghost use Rattle.std.specs.Prelude.{◌+◌, ◌*◌, ◌^◌, ◌≤◌, ◌<◌, ◌≡◌, ◌&&◌, cond, leb, ltb, length, replicate, OnOk};
 ghost use Rattle.std.specs.Bool.{OnTrue};
 ghost use Rattle.bits.specs.Bits.{bits};
 ghost use Rattle.questions.specs.Effect.{effect};
@@ -10,6 +10,7 @@ ghost use Rattle.bitbuffer.specs.Writes.{room, widths, after_all, written as wri
 
 use crate::{BitBuffer, Windows, reach};
 use bit_fields::{copy, fill, put};
+use bits::Part;
 use questions::Refusal;
 
 impl BitBuffer {
@@ -43,17 +44,18 @@ impl BitBuffer {
     pub fn write_zeroes(self, bytes: &mut [u8], num_bits: usize) -> Result<BitBuffer, Refusal>
         ensures { effect (outcome result) (bits bytes.new) ≡ written_all self (bits bytes.old) (replicate num_bits 0) }
     {
-        self.write_alike(bytes, num_bits, 0)
+        self.write_alike(bytes, num_bits, false)
     }
 
     /// Writes any number of ones.
     pub fn write_ones(self, bytes: &mut [u8], num_bits: usize) -> Result<BitBuffer, Refusal>
         ensures { effect (outcome result) (bits bytes.new) ≡ written_all self (bits bytes.old) (replicate num_bits 1) }
     {
-        self.write_alike(bytes, num_bits, 1)
+        self.write_alike(bytes, num_bits, true)
     }
 
     /// Writes the next bits of a source, and moves both windows past them.
+    #[tactic(auto, using(bits::proofs::PartLaws::part_from))]
     pub fn copy_bits(
         self,
         bytes: &mut [u8],
@@ -66,7 +68,12 @@ impl BitBuffer {
         self.checked(bytes)?;
         let from = source.checked(src)?.ahead(num_bits)?;
         let to = self.after(bytes, num_bits)?;
-        copy(src, source.pos, bytes, self.pos, num_bits);
+        let bits = Part {
+            bytes: &src[source.pos / 8..],
+            place: source.pos % 8,
+            len: num_bits,
+        };
+        copy(bits, bytes, self.pos);
         Ok(Windows { to, from })
     }
 
@@ -91,9 +98,8 @@ impl BitBuffer {
     }
 
     // Writes n times a bit.
-    fn write_alike(self, bytes: &mut [u8], n: usize, bit: u64) -> Result<BitBuffer, Refusal>
-        requires { bit < 2 }
-        ensures { effect (outcome result) (bits bytes.new) ≡ written_all self (bits bytes.old) (replicate n bit) }
+    fn write_alike(self, bytes: &mut [u8], n: usize, bit: bool) -> Result<BitBuffer, Refusal>
+        ensures { effect (outcome result) (bits bytes.new) ≡ written_all self (bits bytes.old) (replicate n (cond bit 1 0)) }
     {
         self.checked(bytes)?;
         let after = self.after(bytes, n)?;

@@ -5,7 +5,7 @@ use native.Mathlib.Numerals.{one-add}
 use native.Mathlib.Omega.{arith}
 use mathlib.Core.Path.{◌≡◌, ◌∙◌, refl, sym, ap, ap₂}
 use mathlib.Core.Bool.{Bool, true, false}
-use mathlib.Core.List.{List, [], ◌∷◌, ◌++◌, append_assoc, append-nil}
+use mathlib.Core.List.{List, [], ◌∷◌, ◌++◌, append_assoc}
 use borrow.Author.Tests.{leb-true, leb-false, le-leb, lt-leb}
 use lib.Arith.{digits_lt}
 use lib.Dec.{leb}
@@ -262,35 +262,17 @@ to_bits-value (b ∷ l) a =
     (ap (λ (k : ℕ). k % 2) (high b (length l) (value-below l a.1)) ∙ small)
     (to_bits-above (length l) b (value l) ∙ to_bits-value l a.1)
 
--- So n bits of bytes are those of the number that they spell.
+-- Lists of as many bits that spell the same number are the same.
+pub value-determines : (l m : List ℕ) → AllBits l → AllBits m → length l ≡ length m → value l ≡ value m → l ≡ m
+value-determines l m h k n e = sym (to_bits-value l h) ∙ ap₂ to_bits n e ∙ to_bits-value m k
+
+-- And n bits of bytes are those of the number that they spell.
 pub to_bits-of-part :
     (l : List ℕ) (at n : ℕ) → at + n ≤ 8 * length l → to_bits n (value (part (bits l) at n)) ≡ part (bits l) at n
 to_bits-of-part l at n h =
     let long : length (part (bits l) at n) ≡ n = length_part (bits l) at n (rw (length-bits l) h) in
     ap (λ (k : ℕ). to_bits k (value (part (bits l) at n))) (sym long)
     ∙ to_bits-value (part (bits l) at n) (all_take n (drop at (bits l)) (all_drop at (bits l) (all-bits l)))
-
--- Storing a whole byte.
-pub bits-store : (l : List ℕ) (q v : ℕ) → q < length l → bits (set l q v) ≡ splice (bits l) (8 * q) (to_bits 8 v)
-unfolding to_bits
-bits-store l q v inside =
-    bits-set l q 0 8 0 v (to_bits 8 v) inside refl (length-to_bits 8 v) (sym (append-nil (to_bits 8 v)))
-    ∙ ap (λ (k : ℕ). splice (bits l) k (to_bits 8 v)) (add-zero (8 * q))
-
--- Two parts of s that follow one another, put one behind the other.
-pub splice-parts :
-    (l s : List ℕ) (at from a b : ℕ)
-    → at + (a + b) ≤ length l
-    → from + (a + b) ≤ length s
-    → splice (splice l at (part s from a)) (at + a) (part s (from + a) b) ≡ splice l at (part s from (a + b))
-splice-parts l s at from a b room there =
-    let vs : List ℕ = part s from a in
-    let ws : List ℕ = part s (from + a) b in
-    let vs-long : length vs ≡ a = length_part s from a (omega arith) in
-    let ws-long : length ws ≡ b = length_part s (from + a) b (omega arith) in
-    ap (λ (k : ℕ). splice (splice l at vs) (at + k) ws) (sym vs-long)
-    ∙ splice-splice l at vs ws (omega arith)
-    ∙ ap (λ (t : List ℕ). splice l at t) (sym (part-append s from a b))
 
 -- What holds of a test, shown where it holds and where it fails.
 pub by-leb : (P : Bool → Type 0) (a b : ℕ) → (a ≤ b → P true) → (b < a → P false) → P (leb a b)

@@ -9,6 +9,7 @@ ghost use Rattle.fcs.specs.Fcs.{start, fcs};
 ghost use Rattle.fcs.specs.Register.{fed, Ruled};
 ghost use Rattle.fcs.specs.Answers.{computed, check};
 
+use bit_fields::byte;
 use bits::Part;
 use questions::Refusal;
 
@@ -106,27 +107,12 @@ pub fn compute_fcs_by_bits(part: &[u8], at: usize, len: usize) -> Result<u32, Re
     Ok(!fed_bits(Part::new(part, at, len)?, started(len)))
 }
 
-// Byte i of the part, counted from its first bit on.
-fn byte_at(part: Part, i: usize) -> u32
-    requires { 8 * i + 8 ≤ part.len }
-    ensures upper_bound { result < 256 }
-    ensures result_value { to_bits 8 result ≡ cut (bits_of part.entry) (8 * i) 8 }
-{
-    let first = part.bytes[i] as u32;
-    if part.place == 0 {
-        return first;
-    }
-    let two = first * 256 + part.bytes[i + 1] as u32;
-    (two >> (8 - part.place)) % 256
-}
-
 // One more byte into the 32 bits that are carried.
-fn fed_byte(crc: u32, byte: u32, table: &[u32; 256]) -> u32
-    requires byte_bound { byte < 256 }
-    requires ruled { Ruled table.now }
+fn fed_byte(crc: u32, byte: u8, table: &[u32; 256]) -> u32
+    requires { Ruled table.now }
     ensures { result ≡ fed crc (to_bits 8 byte) }
 {
-    (crc << 8) ^ table[((crc >> 24) ^ byte) as usize]
+    (crc << 8) ^ table[((crc >> 24) ^ byte as u32) as usize]
 }
 
 // The n bytes of the part, one by one, into the 32 bits that are carried.
@@ -137,7 +123,7 @@ fn fed_bytes(part: Part, n: usize, crc: u32, table: &[u32; 256]) -> u32
 {
     let mut carried = crc;
     for i in 0..n {
-        carried = fed_byte(carried, byte_at(part, i), table);
+        carried = fed_byte(carried, byte(part, i), table);
     }
     carried
 }
@@ -157,11 +143,7 @@ fn word_of(part: Part) -> u32
     requires { part.len ≡ 32 }
     ensures { result ≡ value (bits_of part.entry) }
 {
-    let a = byte_at(part, 0);
-    let b = byte_at(part, 1);
-    let c = byte_at(part, 2);
-    let d = byte_at(part, 3);
-    ((a * 256 + b) * 256 + c) * 256 + d
+    u32::from_be_bytes([byte(part, 0), byte(part, 1), byte(part, 2), byte(part, 3)])
 }
 
 /// The check bits of len bits from at on.

@@ -6,12 +6,12 @@ use mathlib.Core.Bool.{true}
 use mathlib.Core.Option.{Option, none, some}
 use borrow.Author.Tests.{leb-true, ltb-true, ltb-false, le-leb, lt-leb}
 use lib.Dec.{leb, ltb}
-use Rattle.lists.proofs.Choices.{by-choice, both}
+use Rattle.std.proofs.lemmas.Bool.{cond_both, and_parts}
 use Rattle.hex_lines.specs.Lines.{among, digit, hex_digit}
 
 -- What a test of a range says.
 pub within : (a b c : ℕ) → among a b c ≡ true → (a ≤ c) × (c ≤ b)
-within a b c h = let t = both {x = leb a c} {y = leb c b} h in (leb-true a c t.0, leb-true c b t.1)
+within a b c h = let t = and_parts (leb a c) (leb c b) h in (leb-true a c t.0, leb-true c b t.1)
 
 -- A value, if there is one, is below 16.
 abbrev pub Below : Option ℕ → Type 0
@@ -21,12 +21,12 @@ Below (some v) = v < 16
 pub digit-below : (c : ℕ) → Below (digit c)
 unfolding digit
 digit-below c =
-    by-choice Below (among 48 57 c)
+    cond_both (among 48 57 c) _ _ Below
     (λ t. let r = within 48 57 c t in omega arith)
     (λ t.
-    by-choice Below (among 97 102 c)
+    cond_both (among 97 102 c) _ _ Below
     (λ u. let r = within 97 102 c u in omega arith)
-    (λ u. by-choice Below (among 65 70 c) (λ w. let r = within 65 70 c w in omega arith) (λ w. tt)))
+    (λ u. cond_both (among 65 70 c) _ _ Below (λ w. let r = within 65 70 c w in omega arith) (λ w. tt)))
 
 -- The characters '0' to '9' and 'a' to 'f'.
 decimal : (c : ℕ) → 48 ≤ c → c ≤ 57 → digit c ≡ some (c - 48)
@@ -41,7 +41,7 @@ lower c l h = rw (le-leb 48 c (omega arith), lt-leb c 57 (omega arith), le-leb 9
 pub digit-hex_digit : (v : ℕ) → v < 16 → digit (hex_digit v) ≡ some v
 unfolding hex_digit
 digit-hex_digit v h =
-    by-choice (λ (c : ℕ). digit c ≡ some v) (ltb v 10)
+    cond_both (ltb v 10) _ _ (λ (c : ℕ). digit c ≡ some v)
     (λ t.
     let u : v < 10 = ltb-true v 10 t in
     let e : 48 + v - 48 ≡ v = omega arith in

@@ -2,14 +2,16 @@
 use Prim.Native.Nat.{ℕ, suc, ◌+◌, ◌*◌, ◌/◌, ◌%◌, ◌≤◌, ◌<◌}
 use native.Mathlib.Omega.{arith}
 use mathlib.Core.Path.{◌≡◌, ◌∙◌, refl, sym, ap}
-use mathlib.Core.Bool.{Bool, true, false, cond, ◌||◌, true≢false, false≢true}
+use mathlib.Core.Bool.{Bool, true, false, cond, ◌||◌, or-true, true≢false, false≢true}
 use mathlib.Core.List.{List, [], ◌∷◌, ◌++◌, append_assoc, append-nil}
 use mathlib.Core.Option.{Option, none, some}
 use borrow.Author.Tests.{eqb-true, eqb-false, eq-eqb, ne_eqb, ltb-true, ltb-false, lt-ltb, le-ltb, le-leb, lt-leb}
 use lib.Dec.{leb, ltb}
 use lib.ListN.{length, get_or, take, length-append, length-set}
-use lib.Seq.{take-set-le, take-suc-set, get_or-set_same}
-use Rattle.lists.proofs.Choices.{by-test, by-choice, neither}
+use lib.Seq.{append_snoc, take-set-le, take-suc-set, get_or-set_same}
+use Rattle.std.proofs.lemmas.Bool.{cond_both, or_parts}
+use Rattle.std.proofs.lemmas.List.{length_push}
+use Rattle.lists.proofs.Choices.{by-test}
 use Rattle.hex_lines.specs.Lines.{most, most_bytes, digit, joined, bytes_of, call_in}
 use Rattle.hex_lines.specs.Gathering.{Gathered, fresh, spoiled, longer, pushed, feed_value, feed_of, begun_of, odd, finished_of, said, call_length}
 use Rattle.hex_lines.specs.Fed.{some_in, onto, resumed, Good, Hopeless, Fed}
@@ -49,13 +51,6 @@ module _ (bs : List ℕ) (k c v : ℕ) (e : digit c ≡ some v) (low : v < 16) (
       rw (e, take-suc-set bs k (get_or bs k 0 % 16 * 16 + v) inside)
       (onto-joined (take k bs) (get_or bs k 0 % 16) v (bytes_of ds))
 
--- Characters split one later.
-one_later : (cs : List ℕ) (c : ℕ) (ds : List ℕ) → (cs ++ (c ∷ [])) ++ ds ≡ cs ++ (c ∷ ds)
-one_later cs c ds = append_assoc cs (c ∷ []) ds
-
-length-later : (cs : List ℕ) (c : ℕ) → length (cs ++ (c ∷ [])) ≡ length cs + 1
-length-later cs c = length-append cs (c ∷ [])
-
 -- A good line with one more digit is good.
 next-digit :
     (cs : List ℕ) (n : ℕ) (bs : List ℕ) (c v : ℕ)
@@ -67,11 +62,11 @@ next-digit :
     → Good (cs ++ (c ∷ [])) (n + 1) (pushed bs (n / 2) v)
 next-digit cs n bs c v g e low few inside =
     record {
-      count = omega (arith, length-later cs c, g.count);
+      count = omega (arith, length_push cs c, g.count);
       few = omega arith;
       spells =
           λ ds.
-          rw (one_later cs c ds)
+          rw (append_snoc cs c ds)
           (g.spells (c ∷ ds)
           ∙ by-test (odd n)
           (λ o.
@@ -105,7 +100,7 @@ spoiled-by-other :
 unfolding call_in
 spoiled-by-other cs n bs c g e ds =
     choice-none (leb (length ((cs ++ (c ∷ [])) ++ ds)) most) (bytes_of ((cs ++ (c ∷ [])) ++ ds))
-    (ap bytes_of (one_later cs c ds)
+    (ap bytes_of (append_snoc cs c ds)
     ∙ g.spells (c ∷ ds)
     ∙ no_digit (take (n / 2) bs) (odd n) (get_or bs (n / 2) 0 % 16) c ds e)
 
@@ -116,11 +111,11 @@ too_long cs h = rw (lt-leb (length cs) most h)
 
 spoiled-by-length : (cs : List ℕ) (c : ℕ) → most ≤ length cs → Hopeless (cs ++ (c ∷ []))
 spoiled-by-length cs c h ds =
-    too_long ((cs ++ (c ∷ [])) ++ ds) (omega (arith, length-append (cs ++ (c ∷ [])) ds, length-later cs c))
+    too_long ((cs ++ (c ∷ [])) ++ ds) (omega (arith, length-append (cs ++ (c ∷ [])) ds, length_push cs c))
 
 -- A line that is spoiled stays so.
 stays-spoiled : (cs : List ℕ) (c : ℕ) → Hopeless cs → Hopeless (cs ++ (c ∷ []))
-stays-spoiled cs c h ds = ap call_in (one_later cs c ds) ∙ h (c ∷ ds)
+stays-spoiled cs c h ds = ap call_in (append_snoc cs c ds) ∙ h (c ∷ ds)
 
 -- ---- the laws
 
@@ -142,10 +137,6 @@ begin bs room =
 some-later : (cs : List ℕ) (c : ℕ) → some_in (cs ++ (c ∷ [])) ≡ true
 some-later [] c = refl
 some-later (d ∷ cs) c = refl
-
-or-true : (b : Bool) → b || true ≡ true
-or-true true = refl
-or-true false = refl
 
 begun-longer : (l : Line) → begun_of (longer l) ≡ true
 unfolding begun_of
@@ -182,9 +173,9 @@ feed-value :
 unfolding feed_value
 feed-value {cs} {l} {bs} c none e b f = spoils c f (λ t. spoiled-by-other cs l.digits bs c (f.good t) e)
 feed-value {cs} {l} {bs} c (some v) e b f =
-    by-choice (FedBy (cs ++ (c ∷ []))) (ltb l.digits most)
+    cond_both (ltb l.digits most) _ _ (FedBy (cs ++ (c ∷ [])))
     (λ t.
-    by-choice (FedBy (cs ++ (c ∷ []))) (ltb (l.digits / 2) (length bs))
+    cond_both (ltb (l.digits / 2) (length bs)) _ _ (FedBy (cs ++ (c ∷ [])))
     (λ u.
     record {
       room = rw (length-set bs (l.digits / 2) (get_or bs (l.digits / 2) 0 % 16 * 16 + v)) f.room;
@@ -232,7 +223,7 @@ third {x = false} {y = false} {z} t a b = t
 pub finished-says : {cs : List ℕ} {l : Line} {bs : List ℕ} → Fed cs l bs → call_in cs ≡ said (finished_of l) bs
 unfolding finished_of
 finished-says {cs} {l} {bs} f =
-    by-choice (λ (a : Result ℕ Refusal). call_in cs ≡ said a bs) (l.bad || ltb most l.digits || odd l.digits)
+    cond_both (l.bad || ltb most l.digits || odd l.digits) _ _ (λ (a : Result ℕ Refusal). call_in cs ≡ said a bs)
     (λ t.
     by-test l.bad
     (λ b. ap call_in (sym (append-nil cs)) ∙ f.bad b [])
@@ -240,16 +231,16 @@ finished-says {cs} {l} {bs} f =
     let g = f.good b in
     good-spells true (third t b (le-ltb most l.digits g.few)) g))
     (λ t.
-    let u = neither {x = l.bad || ltb most l.digits} {y = odd l.digits} t in
-    even-spells u.1 (f.good (neither {x = l.bad} {y = ltb most l.digits} u.0).0))
+    let u = or_parts (l.bad || ltb most l.digits) (odd l.digits) t in
+    even-spells u.1 (f.good (or_parts l.bad (ltb most l.digits) u.0).0))
 
 -- A call has at most 2,048 bytes, whatever the line's state.
 pub finished-few : (l : Line) → call_length (finished_of l) ≤ most_bytes
 unfolding finished_of
 finished-few l =
-    by-choice (λ (a : Result ℕ Refusal). call_length a ≤ most_bytes) (l.bad || ltb most l.digits || odd l.digits)
+    cond_both (l.bad || ltb most l.digits || odd l.digits) _ _ (λ (a : Result ℕ Refusal). call_length a ≤ most_bytes)
     (λ t. omega arith)
     (λ t.
-    let u = neither {x = l.bad || ltb most l.digits} {y = odd l.digits} t in
-    let w = neither {x = l.bad} {y = ltb most l.digits} u.0 in
+    let u = or_parts (l.bad || ltb most l.digits) (odd l.digits) t in
+    let w = or_parts l.bad (ltb most l.digits) u.0 in
     omega (arith, ltb-false most l.digits w.1))

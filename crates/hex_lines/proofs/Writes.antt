@@ -8,8 +8,8 @@ use borrow.Author.Tests.{lt-ltb, le-ltb}
 use lib.Dec.{ltb}
 use lib.ListN.{length, get_or, take, length-append}
 use lib.Seq.{take_all, take-suc, length-take-le}
+use Rattle.std.proofs.lemmas.Bool.{cond_both}
 use Rattle.lists.specs.Writes.{Wrote}
-use Rattle.lists.proofs.Choices.{by-choice}
 use Rattle.lists.proofs.Writes.{◌⨾◌, as_long, wrote_none}
 use Rattle.hex_lines.specs.Lines.{line_end, hex_of, decimal_of}
 
@@ -28,12 +28,12 @@ length-hex_of (b ∷ bs) = omega (arith, length-hex_of bs)
 -- ---- a line of digits
 
 -- The digits of the first i bytes are written: how far that comes, no digits yet, one byte more, and what stands behind them.
-pub digits-place :
+pub digits_place :
     {l m : List ℕ} {at p : ℕ} (bytes : List ℕ) (i : ℕ)
     → Wrote l at (hex_of (take i bytes)) m p
     → i ≤ length bytes
     → (p ≡ at + 2 * i) × (length m ≡ length l)
-digits-place bytes i w h = (omega (arith, w.next, length-hex_of (take i bytes), length-take-le i bytes h), as_long w)
+digits_place bytes i w h = (omega (arith, w.next, length-hex_of (take i bytes), length-take-le i bytes h), as_long w)
 
 pub no-digits : (l bytes : List ℕ) (at : ℕ) → Wrote l at (hex_of (take 0 bytes)) l at
 unfolding hex_of
@@ -84,6 +84,6 @@ line-length bytes = omega (arith, length-append (hex_of bytes) (line_end ∷ [])
 pub number-length : (n : ℕ) → length (decimal_of n ++ (line_end ∷ [])) ≤ 4
 unfolding decimal_of
 number-length n =
-    by-choice (λ (l : List ℕ). length (l ++ (line_end ∷ [])) ≤ 4) (ltb n 10)
+    cond_both (ltb n 10) _ _ (λ (l : List ℕ). length (l ++ (line_end ∷ [])) ≤ 4)
     (λ t. omega arith)
-    (λ t. by-choice (λ (l : List ℕ). length (l ++ (line_end ∷ [])) ≤ 4) (ltb n 100) (λ u. omega arith) (λ u. omega arith))
+    (λ t. cond_both (ltb n 100) _ _ (λ (l : List ℕ). length (l ++ (line_end ∷ [])) ≤ 4) (λ u. omega arith) (λ u. omega arith))

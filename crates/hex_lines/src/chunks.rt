@@ -1,39 +1,20 @@
 // The characters of a line, from a chunk of the input.
-ghost use Rattle.std.specs.Prelude.{◌<◌, length};
+ghost use Rattle.std.specs.Prelude.{option_map};
 ghost use Rattle.hex_lines.specs.Reading.{Gathers};
 
 use crate::Line;
 use crate::writing::LINE_END;
 
-/// A line that has come so far.
-#[derive(Clone, Copy)]
-pub struct Gathered {
-    pub line: Line,
-    /// The place behind its last character or its line end.
-    pub next: usize,
-    /// Did its line end come?
-    pub ended: bool,
-}
-
-/// Feeds the characters from a place on to a line, up to its line end or the chunk's end.
-pub fn gather(line: Line, bytes: &mut [u8], chunk: &[u8], from: usize) -> Gathered
-    requires { from < length chunk.now }
-    ensures { Gathers chunk.now from line bytes.old result bytes.new }
+/// Feeds the characters of a chunk to a line, up to its line end: what stands behind that, or none if no line end came.
+#[tactic(auto, using(crate::proofs::Gathering::one_more, crate::proofs::Gathering::line_ended))]
+pub fn gather<'a>(line: &mut Line, bytes: &mut [u8], chunk: &'a [u8]) -> Option<&'a [u8]>
+    ensures { Gathers chunk.now line.old bytes.old line.new bytes.new (option_map (λ rest. rest.now) result) }
 {
-    let mut line = line;
-    for i in from..chunk.len() {
-        if chunk[i] == LINE_END {
-            return Gathered {
-                line,
-                next: i + 1,
-                ended: true,
-            };
+    for (i, c) in chunk.iter().enumerate() {
+        if *c == LINE_END {
+            return Some(&chunk[i + 1..]);
         }
-        line = line.feed(bytes, chunk[i]);
+        *line = line.feed(bytes, *c);
     }
-    Gathered {
-        line,
-        next: chunk.len(),
-        ended: false,
-    }
+    None
 }

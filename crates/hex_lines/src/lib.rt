@@ -5,7 +5,7 @@ mod chunks;
 mod reading;
 mod writing;
 
-pub use chunks::{Gathered, gather};
+pub use chunks::gather;
 pub use writing::{put_hex, put_line, put_number};
 
 /// How far the current line has come.

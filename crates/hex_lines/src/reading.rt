@@ -65,10 +65,5 @@ fn value(c: u8) -> Option<u8>
     ensures value { MatchOption result (digit_of c ≡ none) (λ v. digit_of c ≡ some v) }
     ensures upper_bound { IfSome result (λ v. v < 16) }
 {
-    match c {
-        b'0'..=b'9' => Some(c - b'0'),
-        b'a'..=b'f' => Some(c - b'a' + 10),
-        b'A'..=b'F' => Some(c - b'A' + 10),
-        _ => None,
-    }
+    (c as char).to_digit(16).map(|v| v as u8)
 }

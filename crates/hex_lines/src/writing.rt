@@ -21,7 +21,7 @@ fn hex_digit(v: u8) -> u8
     requires { v < 16 }
     ensures { result ≡ hex_digit v }
 {
-    if v < 10 { b'0' + v } else { b'a' - 10 + v }
+    char::from_digit(v.into(), 16).unwrap() as u8
 }
 
 /// Writes a byte as two lower-case digits, and gives the place behind them.
@@ -34,6 +34,7 @@ pub fn put_hex(out: &mut [u8], at: usize, b: u8) -> usize
 }
 
 /// Writes bytes as a line of digits, and gives the place behind its line end.
+#[tactic(auto, using(crate::proofs::Writes::digits_place))]
 pub fn put_line(out: &mut [u8], at: usize, bytes: &[u8]) -> usize
     requires { at + 2 * length bytes.now + 1 ≤ length out.old }
     ensures { Wrote out.old at (hex_of bytes.now ++ (line_end ∷ [])) out.new result }

@@ -2,7 +2,7 @@
 ghost use Rattle.std.specs.Prelude.{◌≡◌};
 ghost use Rattle.questions.specs.Refusals.{outcome};
 ghost use Rattle.bitbuffer.specs.Answers.{peeked, read};
-ghost use Rattle.leaf_exports.specs.Windows.{window_of, count_of, found_of, got_of, copy_of, to_copy, to_value, to_none};
+ghost use Rattle.leaf_exports.specs.Windows.{window_of, count_of, found_of, got_of, copy_of, to_value, to_none};
 
 use bitbuffer::{BitBuffer, Windows};
 use questions::Refusal;
@@ -31,85 +31,81 @@ pub struct CopyAnswer {
     pub windows: Windows,
 }
 
-/// A value, and the window w.
-pub fn to_value(value: u64, w: BitBuffer) -> WindowAnswer
-    ensures { result ≡ to_value value w }
-{
-    WindowAnswer {
-        number: 0,
-        is_found: true,
-        value,
-        window: w,
+impl WindowAnswer {
+    // A value, and the window w.
+    fn found(value: u64, w: BitBuffer) -> WindowAnswer
+        ensures { result ≡ to_value value w }
+    {
+        WindowAnswer {
+            number: 0,
+            is_found: true,
+            value,
+            window: w,
+        }
+    }
+
+    // A number, no value, and the window w.
+    fn without(number: u8, w: BitBuffer) -> WindowAnswer
+        ensures { result ≡ to_none number w }
+    {
+        WindowAnswer {
+            number,
+            is_found: false,
+            value: 0,
+            window: w,
+        }
+    }
+
+    // Where the window was w: the window after a step or a write.
+    pub(crate) fn of_window(w: BitBuffer, r: Result<BitBuffer, Refusal>) -> WindowAnswer
+        ensures { result ≡ window_of w (outcome r) }
+    {
+        match r {
+            Ok(v) => WindowAnswer::without(0, v),
+            Err(refusal) => WindowAnswer::without(refusal.into(), w),
+        }
+    }
+
+    // Where the window was w: a number of bits.
+    pub(crate) fn of_count(w: BitBuffer, r: Result<usize, Refusal>) -> WindowAnswer
+        ensures { result ≡ count_of w (outcome r) }
+    {
+        WindowAnswer::of_read(w, r.map(|n| Some((n as u64, w))))
+    }
+
+    // Where the window was w: what a peek finds.
+    pub(crate) fn of_peeked(w: BitBuffer, r: Result<Option<u64>, Refusal>) -> WindowAnswer
+        ensures { result ≡ found_of w (peeked r) }
+    {
+        WindowAnswer::of_read(w, r.map(|o| o.map(|value| (value, w))))
+    }
+
+    // Where the window was w: what a read gives.
+    pub(crate) fn of_read(
+        w: BitBuffer,
+        r: Result<Option<(u64, BitBuffer)>, Refusal>,
+    ) -> WindowAnswer
+        ensures { result ≡ got_of w (read r) }
+    {
+        match r {
+            Ok(Some((value, v))) => WindowAnswer::found(value, v),
+            Ok(None) => WindowAnswer::without(0, w),
+            Err(refusal) => WindowAnswer::without(refusal.into(), w),
+        }
     }
 }
 
-/// A number, no value, and the window w.
-pub fn to_none(number: u8, w: BitBuffer) -> WindowAnswer
-    ensures { result ≡ to_none number w }
-{
-    WindowAnswer {
-        number,
-        is_found: false,
-        value: 0,
-        window: w,
+impl CopyAnswer {
+    // Where the windows were w and v: what a copy from v to w gives.
+    pub(crate) fn of(w: BitBuffer, v: BitBuffer, r: Result<Windows, Refusal>) -> CopyAnswer
+        ensures { result ≡ copy_of w v (outcome r) }
+    {
+        match r {
+            Ok(windows) => CopyAnswer { number: 0, windows },
+            Err(refusal) => CopyAnswer {
+                number: refusal.into(),
+                windows: Windows { to: w, from: v },
+            },
+        }
     }
-}
-
-/// Where the window was w: the window after a step or a write.
-pub fn of_window(w: BitBuffer, r: Result<BitBuffer, Refusal>) -> WindowAnswer
-    ensures { result ≡ window_of w (outcome r) }
-{
-    match r {
-        Ok(v) => to_none(0, v),
-        Err(refusal) => to_none(u8::from(refusal), w),
-    }
-}
-
-/// Where the window was w: a number of bits.
-pub fn of_count(w: BitBuffer, r: Result<usize, Refusal>) -> WindowAnswer
-    ensures { result ≡ count_of w (outcome r) }
-{
-    match r {
-        Ok(n) => to_value(n as u64, w),
-        Err(refusal) => to_none(u8::from(refusal), w),
-    }
-}
-
-/// Where the window was w: what a peek finds.
-pub fn of_peeked(w: BitBuffer, r: Result<Option<u64>, Refusal>) -> WindowAnswer
-    ensures { result ≡ found_of w (peeked r) }
-{
-    match r {
-        Ok(Some(value)) => to_value(value, w),
-        Ok(None) => to_none(0, w),
-        Err(refusal) => to_none(u8::from(refusal), w),
-    }
-}
-
-/// Where the window was w: what a read gives.
-pub fn of_read(w: BitBuffer, r: Result<Option<(u64, BitBuffer)>, Refusal>) -> WindowAnswer
-    ensures { result ≡ got_of w (read r) }
-{
-    match r {
-        Ok(Some((value, v))) => to_value(value, v),
-        Ok(None) => to_none(0, w),
-        Err(refusal) => to_none(u8::from(refusal), w),
-    }
-}
-
-/// Where the windows were w and v: what a copy from v to w gives.
-pub fn of_copied(w: BitBuffer, v: BitBuffer, r: Result<Windows, Refusal>) -> CopyAnswer
-    ensures { result ≡ copy_of w v (outcome r) }
-{
-    match r {
-        Ok(windows) => to_copy(0, windows),
-        Err(refusal) => to_copy(u8::from(refusal), Windows { to: w, from: v }),
-    }
-}
-
-// A number and the windows of a copy.
-fn to_copy(number: u8, windows: Windows) -> CopyAnswer
-    ensures { result ≡ to_copy number windows }
-{
-    CopyAnswer { number, windows }
 }

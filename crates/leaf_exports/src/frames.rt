@@ -3,18 +3,19 @@ ghost use Rattle.std.specs.Prelude.{◌≡◌};
 ghost use Rattle.bits.specs.Bits.{bits};
 ghost use Rattle.questions.specs.Outcome.{number as number_of};
 ghost use Rattle.fcs.specs.Answers.{check};
-ghost use Rattle.llc_pdus.specs.Answers.{read_from};
+ghost use Rattle.llc_pdus.specs.Answers.{answered, read_from};
 ghost use Rattle.llc_pdus.specs.Types.{from_raw};
 ghost use Rattle.llc_pdus.specs.Writes.{written};
-ghost use Rattle.leaf_exports.specs.Frames.{pdu_numbered, to_frame, to_refusal, frame_answer};
+ghost use Rattle.leaf_exports.specs.Frames.{pdu_numbered, frame_answer};
 ghost use Rattle.leaf_exports.specs.Numbers.{sum_or, raw_or};
 
-use crate::{above_u32, length_or};
+use crate::number_or;
 use llc_pdus::{LlcPduType, Pdu, Sdu};
+use questions::Refusal;
 
 /// What reading a frame answers; past a refusal all is 0.
 #[repr(C)]
-#[derive(Clone, Copy)]
+#[derive(Clone, Copy, Default)]
 pub struct FrameAnswer {
     /// Document 01's number, 0 where it is accepted.
     pub number: u8,
@@ -39,10 +40,7 @@ pub struct FrameAnswer {
 pub extern "C" fn leaf_from_bitbuf(frame: &[u8], len: usize) -> FrameAnswer
     ensures { result ≡ frame_answer (read_from (bits frame.now) len) }
 {
-    match llc_pdus::from_bitbuf(frame, len) {
-        Ok((p, s)) => to_frame(p, s),
-        Err(r) => to_refusal(u8::from(r)),
-    }
+    llc_pdus::from_bitbuf(frame, len).into()
 }
 
 /// to_bitbuf of the PDU with a type and its flags.
@@ -61,7 +59,7 @@ pub extern "C" fn leaf_to_bitbuf(
     ensures out_after { bits out.new ≡ (written (pdu_numbered kind has_fcs nr ns) (bits out.old) (bits sdu.now) from len).bits }
 {
     let pdu = pdu_numbered(kind, has_fcs, nr, ns);
-    length_or(llc_pdus::to_bitbuf(pdu, sdu, from, len, out))
+    number_or(llc_pdus::to_bitbuf(pdu, sdu, from, len, out).map(|n| n as u64))
 }
 
 /// check_fcs of so many bits of a part from a place on: the number, 0 where the check is right.
@@ -80,10 +78,7 @@ pub extern "C" fn leaf_check_fcs(part: &[u8], at: usize, len: usize) -> u64
 pub extern "C" fn leaf_type(x: u64) -> u64
     ensures { result ≡ raw_or (from_raw x) }
 {
-    match LlcPduType::try_from(x) {
-        Ok(t) => u64::from(t),
-        Err(r) => above_u32(r),
-    }
+    number_or(LlcPduType::try_from(x).map(u64::from))
 }
 
 // The PDU with a type and its flags.
@@ -98,40 +93,34 @@ fn pdu_numbered(kind: u8, has_fcs: bool, nr: bool, ns: bool) -> Pdu
     }
 }
 
-// A frame that is read.
-fn to_frame(p: Pdu, s: Sdu) -> FrameAnswer
-    ensures { result ≡ to_frame p s }
-{
-    let (kind, has_fcs, nr, ns) = match p {
-        Pdu::BlAdata { has_fcs, nr, ns } => (0, has_fcs, nr, ns),
-        Pdu::BlData { has_fcs, ns } => (1, has_fcs, false, ns),
-        Pdu::BlUdata { has_fcs } => (2, has_fcs, false, false),
-        Pdu::BlAck { has_fcs, nr } => (3, has_fcs, nr, false),
-    };
-    FrameAnswer {
-        number: 0,
-        kind,
-        has_fcs,
-        nr,
-        ns,
-        first: s.first,
-        len: s.len,
-        place: s.place,
-    }
-}
+impl From<Result<(Pdu, Sdu), Refusal>> for FrameAnswer {
+    ghost from_gives = { λ r a. a ≡ frame_answer (answered r) };
 
-// A refusal by a number.
-fn to_refusal(number: u8) -> FrameAnswer
-    ensures { result ≡ to_refusal number }
-{
-    FrameAnswer {
-        number,
-        kind: 0,
-        has_fcs: false,
-        nr: false,
-        ns: false,
-        first: 0,
-        len: 0,
-        place: 0,
+    // A frame that is read, or the number of the refusal.
+    fn from(r: Result<(Pdu, Sdu), Refusal>) -> FrameAnswer {
+        match r {
+            Ok((pdu, sdu)) => {
+                let (kind, has_fcs, nr, ns) = match pdu {
+                    Pdu::BlAdata { has_fcs, nr, ns } => (0, has_fcs, nr, ns),
+                    Pdu::BlData { has_fcs, ns } => (1, has_fcs, false, ns),
+                    Pdu::BlUdata { has_fcs } => (2, has_fcs, false, false),
+                    Pdu::BlAck { has_fcs, nr } => (3, has_fcs, nr, false),
+                };
+                FrameAnswer {
+                    number: 0,
+                    kind,
+                    has_fcs,
+                    nr,
+                    ns,
+                    first: sdu.first,
+                    len: sdu.len,
+                    place: sdu.place,
+                }
+            }
+            Err(refusal) => FrameAnswer {
+                number: refusal.into(),
+                ..FrameAnswer::default()
+            },
+        }
     }
 }

@@ -4,7 +4,7 @@ ghost use Rattle.bits.specs.Bits.{bits};
 ghost use Rattle.bitbuffer.specs.Reads.{peeked, peeked_from_start, peeked_from_pos, read};
 ghost use Rattle.leaf_exports.specs.Windows.{found_of, got_of};
 
-use crate::answers::{WindowAnswer, of_peeked, of_read};
+use crate::answers::WindowAnswer;
 use bitbuffer::BitBuffer;
 
 /// peek_bits.
@@ -12,7 +12,7 @@ use bitbuffer::BitBuffer;
 pub extern "C" fn leaf_peek_bits(w: BitBuffer, bytes: &[u8], num_bits: usize) -> WindowAnswer
     ensures { result ≡ found_of w (peeked w (bits bytes.now) num_bits) }
 {
-    of_peeked(w, w.peek_bits(bytes, num_bits))
+    WindowAnswer::of_peeked(w, w.peek_bits(bytes, num_bits))
 }
 
 /// peek_bits_startoffset.
@@ -25,7 +25,7 @@ pub extern "C" fn leaf_peek_bits_startoffset(
 ) -> WindowAnswer
     ensures { result ≡ found_of w (peeked_from_start w (bits bytes.now) offset num_bits) }
 {
-    of_peeked(w, w.peek_bits_startoffset(bytes, offset, num_bits))
+    WindowAnswer::of_peeked(w, w.peek_bits_startoffset(bytes, offset, num_bits))
 }
 
 /// peek_bits_posoffset.
@@ -38,7 +38,7 @@ pub extern "C" fn leaf_peek_bits_posoffset(
 ) -> WindowAnswer
     ensures { result ≡ found_of w (peeked_from_pos w (bits bytes.now) offset num_bits) }
 {
-    of_peeked(w, w.peek_bits_posoffset(bytes, offset, num_bits))
+    WindowAnswer::of_peeked(w, w.peek_bits_posoffset(bytes, offset, num_bits))
 }
 
 /// read_bits.
@@ -46,7 +46,7 @@ pub extern "C" fn leaf_peek_bits_posoffset(
 pub extern "C" fn leaf_read_bits(w: BitBuffer, bytes: &[u8], num_bits: usize) -> WindowAnswer
     ensures { result ≡ got_of w (read w (bits bytes.now) num_bits) }
 {
-    of_read(w, w.read_bits(bytes, num_bits))
+    WindowAnswer::of_read(w, w.read_bits(bytes, num_bits))
 }
 
 /// read_bit.
@@ -54,5 +54,5 @@ pub extern "C" fn leaf_read_bits(w: BitBuffer, bytes: &[u8], num_bits: usize) ->
 pub extern "C" fn leaf_read_bit(w: BitBuffer, bytes: &[u8]) -> WindowAnswer
     ensures { result ≡ got_of w (read w (bits bytes.now) 1) }
 {
-    of_read(w, w.read_bit(bytes))
+    WindowAnswer::of_read(w, w.read_bit(bytes))
 }

@@ -50,7 +50,7 @@ pub extern "C" fn leaf_is_valid(a: TdmaTime) -> bool
 pub extern "C" fn leaf_to_int(a: TdmaTime) -> SlotsAnswer
     ensures { result ≡ slots_of (counted_from a) }
 {
-    SlotsAnswer::of(a.to_int())
+    a.to_int().into()
 }
 
 /// from_int.
@@ -74,7 +74,7 @@ pub extern "C" fn leaf_add_timeslots(a: TdmaTime, num_slots: i32) -> TimeAnswer
 pub extern "C" fn leaf_diff(a: TdmaTime, b: TdmaTime) -> SlotsAnswer
     ensures { result ≡ slots_of (difference a b) }
 {
-    SlotsAnswer::of(a.diff(b))
+    a.diff(b).into()
 }
 
 /// age.
@@ -82,7 +82,7 @@ pub extern "C" fn leaf_diff(a: TdmaTime, b: TdmaTime) -> SlotsAnswer
 pub extern "C" fn leaf_age(a: TdmaTime, at: TdmaTime) -> SlotsAnswer
     ensures { result ≡ slots_of (difference at a) }
 {
-    SlotsAnswer::of(a.age(at))
+    a.age(at).into()
 }
 
 /// forward_to_timeslot.
@@ -108,11 +108,11 @@ impl TimeAnswer {
     }
 }
 
-impl SlotsAnswer {
+impl From<Result<i32, Refusal>> for SlotsAnswer {
+    ghost from_gives = { λ r a. a ≡ slots_of (outcome r) };
+
     // Slots, or that they are refused.
-    fn of(counted: Result<i32, Refusal>) -> SlotsAnswer
-        ensures { result ≡ slots_of (outcome counted) }
-    {
+    fn from(counted: Result<i32, Refusal>) -> SlotsAnswer {
         match counted {
             Ok(slots) => SlotsAnswer { number: 0, slots },
             Err(r) => SlotsAnswer {

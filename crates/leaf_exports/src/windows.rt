@@ -4,7 +4,7 @@ ghost use Rattle.bits.specs.Bits.{bits};
 ghost use Rattle.bitbuffer.specs.Window.{first_bits, all_bits, no_bits, len, remaining, position, sought, sought_by, start_set, pos_set, end_set};
 ghost use Rattle.leaf_exports.specs.Windows.{window_of, count_of};
 
-use crate::answers::{WindowAnswer, of_count, of_window};
+use crate::answers::WindowAnswer;
 use bitbuffer::BitBuffer;
 
 /// new, where a refusal leaves the window w.
@@ -12,7 +12,7 @@ use bitbuffer::BitBuffer;
 pub extern "C" fn leaf_new(w: BitBuffer, bytes: &[u8], len_bits: usize) -> WindowAnswer
     ensures { result ≡ window_of w (first_bits (bits bytes.now) len_bits) }
 {
-    of_window(w, BitBuffer::new(bytes, len_bits))
+    WindowAnswer::of_window(w, BitBuffer::new(bytes, len_bits))
 }
 
 /// from_bytes.
@@ -36,7 +36,7 @@ pub extern "C" fn leaf_new_autoexpand() -> BitBuffer
 pub extern "C" fn leaf_get_len(w: BitBuffer, bytes: &[u8]) -> WindowAnswer
     ensures { result ≡ count_of w (len w (bits bytes.now)) }
 {
-    of_count(w, w.get_len(bytes))
+    WindowAnswer::of_count(w, w.get_len(bytes))
 }
 
 /// get_len_remaining.
@@ -44,7 +44,7 @@ pub extern "C" fn leaf_get_len(w: BitBuffer, bytes: &[u8]) -> WindowAnswer
 pub extern "C" fn leaf_get_len_remaining(w: BitBuffer, bytes: &[u8]) -> WindowAnswer
     ensures { result ≡ count_of w (remaining w (bits bytes.now)) }
 {
-    of_count(w, w.get_len_remaining(bytes))
+    WindowAnswer::of_count(w, w.get_len_remaining(bytes))
 }
 
 /// get_pos.
@@ -52,7 +52,7 @@ pub extern "C" fn leaf_get_len_remaining(w: BitBuffer, bytes: &[u8]) -> WindowAn
 pub extern "C" fn leaf_get_pos(w: BitBuffer, bytes: &[u8]) -> WindowAnswer
     ensures { result ≡ count_of w (position w (bits bytes.now)) }
 {
-    of_count(w, w.get_pos(bytes))
+    WindowAnswer::of_count(w, w.get_pos(bytes))
 }
 
 /// get_raw_start.
@@ -84,7 +84,7 @@ pub extern "C" fn leaf_get_raw_end(w: BitBuffer) -> usize
 pub extern "C" fn leaf_seek(w: BitBuffer, bytes: &[u8], offset: usize) -> WindowAnswer
     ensures { result ≡ window_of w (sought w (bits bytes.now) offset) }
 {
-    of_window(w, w.seek(bytes, offset))
+    WindowAnswer::of_window(w, w.seek(bytes, offset))
 }
 
 /// seek_rel.
@@ -92,7 +92,7 @@ pub extern "C" fn leaf_seek(w: BitBuffer, bytes: &[u8], offset: usize) -> Window
 pub extern "C" fn leaf_seek_rel(w: BitBuffer, bytes: &[u8], offset: isize) -> WindowAnswer
     ensures { result ≡ window_of w (sought_by w (bits bytes.now) offset) }
 {
-    of_window(w, w.seek_rel(bytes, offset))
+    WindowAnswer::of_window(w, w.seek_rel(bytes, offset))
 }
 
 /// set_raw_start.
@@ -100,7 +100,7 @@ pub extern "C" fn leaf_seek_rel(w: BitBuffer, bytes: &[u8], offset: isize) -> Wi
 pub extern "C" fn leaf_set_raw_start(w: BitBuffer, bytes: &[u8], start: usize) -> WindowAnswer
     ensures { result ≡ window_of w (start_set w (bits bytes.now) start) }
 {
-    of_window(w, w.set_raw_start(bytes, start))
+    WindowAnswer::of_window(w, w.set_raw_start(bytes, start))
 }
 
 /// set_raw_pos.
@@ -108,7 +108,7 @@ pub extern "C" fn leaf_set_raw_start(w: BitBuffer, bytes: &[u8], start: usize) -
 pub extern "C" fn leaf_set_raw_pos(w: BitBuffer, bytes: &[u8], pos: usize) -> WindowAnswer
     ensures { result ≡ window_of w (pos_set w (bits bytes.now) pos) }
 {
-    of_window(w, w.set_raw_pos(bytes, pos))
+    WindowAnswer::of_window(w, w.set_raw_pos(bytes, pos))
 }
 
 /// set_raw_end.
@@ -116,5 +116,5 @@ pub extern "C" fn leaf_set_raw_pos(w: BitBuffer, bytes: &[u8], pos: usize) -> Wi
 pub extern "C" fn leaf_set_raw_end(w: BitBuffer, bytes: &[u8], end: usize) -> WindowAnswer
     ensures { result ≡ window_of w (end_set w (bits bytes.now) end) }
 {
-    of_window(w, w.set_raw_end(bytes, end))
+    WindowAnswer::of_window(w, w.set_raw_end(bytes, end))
 }

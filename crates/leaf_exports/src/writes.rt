@@ -4,7 +4,7 @@ ghost use Rattle.bits.specs.Bits.{bits};
 ghost use Rattle.bitbuffer.specs.Writes.{written, written_all, copied, copied_from_pos};
 ghost use Rattle.leaf_exports.specs.Windows.{window_of, copy_of};
 
-use crate::answers::{CopyAnswer, WindowAnswer, of_copied, of_window};
+use crate::answers::{CopyAnswer, WindowAnswer};
 use bitbuffer::BitBuffer;
 
 /// write_bits.
@@ -18,7 +18,7 @@ pub extern "C" fn leaf_write_bits(
     ensures value { result ≡ window_of w (written w (bits bytes.old) value num_bits).answer }
     ensures bytes_after { bits bytes.new ≡ (written w (bits bytes.old) value num_bits).bits }
 {
-    of_window(w, w.write_bits(bytes, value, num_bits))
+    WindowAnswer::of_window(w, w.write_bits(bytes, value, num_bits))
 }
 
 /// write_bit.
@@ -27,7 +27,7 @@ pub extern "C" fn leaf_write_bit(w: BitBuffer, bytes: &mut [u8], value: u8) -> W
     ensures value { result ≡ window_of w (written w (bits bytes.old) value 1).answer }
     ensures bytes_after { bits bytes.new ≡ (written w (bits bytes.old) value 1).bits }
 {
-    of_window(w, w.write_bit(bytes, value))
+    WindowAnswer::of_window(w, w.write_bit(bytes, value))
 }
 
 /// write_zeroes.
@@ -36,7 +36,7 @@ pub extern "C" fn leaf_write_zeroes(w: BitBuffer, bytes: &mut [u8], num_bits: us
     ensures value { result ≡ window_of w (written_all w (bits bytes.old) (replicate num_bits 0)).answer }
     ensures bytes_after { bits bytes.new ≡ (written_all w (bits bytes.old) (replicate num_bits 0)).bits }
 {
-    of_window(w, w.write_zeroes(bytes, num_bits))
+    WindowAnswer::of_window(w, w.write_zeroes(bytes, num_bits))
 }
 
 /// write_ones.
@@ -45,7 +45,7 @@ pub extern "C" fn leaf_write_ones(w: BitBuffer, bytes: &mut [u8], num_bits: usiz
     ensures value { result ≡ window_of w (written_all w (bits bytes.old) (replicate num_bits 1)).answer }
     ensures bytes_after { bits bytes.new ≡ (written_all w (bits bytes.old) (replicate num_bits 1)).bits }
 {
-    of_window(w, w.write_ones(bytes, num_bits))
+    WindowAnswer::of_window(w, w.write_ones(bytes, num_bits))
 }
 
 /// copy_bits.
@@ -60,7 +60,7 @@ pub extern "C" fn leaf_copy_bits(
     ensures value { result ≡ copy_of w v (copied w (bits bytes.old) v (bits src.now) num_bits).answer }
     ensures bytes_after { bits bytes.new ≡ (copied w (bits bytes.old) v (bits src.now) num_bits).bits }
 {
-    of_copied(w, v, w.copy_bits(bytes, v, src, num_bits))
+    CopyAnswer::of(w, v, w.copy_bits(bytes, v, src, num_bits))
 }
 
 /// from_bitbuffer_pos.
@@ -73,5 +73,5 @@ pub extern "C" fn leaf_from_bitbuffer_pos(
     ensures value { result ≡ window_of w (copied_from_pos w (bits bytes.now) (bits out.old)).answer }
     ensures out_after { bits out.new ≡ (copied_from_pos w (bits bytes.now) (bits out.old)).bits }
 {
-    of_window(w, w.from_bitbuffer_pos(bytes, out))
+    WindowAnswer::of_window(w, w.from_bitbuffer_pos(bytes, out))
 }

@@ -9,7 +9,7 @@ use borrow.Author.Tests.{lt-ltb}
 use lib.Dec.{ltb}
 use lib.ListN.{length, take, drop, get_or, set, replicate, length-append, length-take, length-drop, length-replicate, take-append-drop}
 use lib.Seq.{length-take-le, take-append_seam, set_split}
-use Rattle.lists.specs.Lists.{any, Found, nothing, first, behind, find, others}
+use Rattle.lists.specs.Lists.{any, nothing, first, behind, find}
 use Rattle.lists.specs.Arrays.{position, without, laid}
 use Rattle.lists.proofs.Choices.{by-test}
 
@@ -51,19 +51,6 @@ module _ {A : Type 0} where
       (λ e. absurd (omega (arith, rw e at h)))
       (λ e. rw e (ap (behind x) (found_none p l (omega (arith, rw e at h)))))
 
-  -- The others are the list without that place.
-  others-behind : (x : A) (l : List A) (f : Found A) → others (behind x f) (x ∷ l) ≡ x ∷ others f l
-  others-behind x l nothing = refl
-  others-behind x l (first y ys) = refl
-
-  pub others-without : (p : A → Bool) (l : List A) → others (find p l) l ≡ without (position p l) l
-  unfolding position find
-  others-without p [] = refl
-  others-without p (x ∷ l) =
-      by-test (p x)
-      (λ e. rw e)
-      (λ e. rw e (others-behind x l (find p l) ∙ ap (λ (t : List A). x ∷ t) (others-without p l)))
-
   -- A search in the first n ends at most there.
   pub position-within : (p : A → Bool) (n : ℕ) (l : List A) → position p (take n l) ≤ n
   position-within p n l = omega (arith, position-most p (take n l), length-take n l)
@@ -74,12 +61,6 @@ module _ {A : Type 0} where
   length_without i [] h = absurd (omega (arith, h))
   length_without zero (x ∷ l) h = refl
   length_without (suc i) (x ∷ l) h = ap suc (length_without i l (omega (arith, h)))
-
-  -- An element that is there, whatever stands for none.
-  pub get_or-there : (i : ℕ) (l : List A) (d e : A) → i < length l → get_or l i d ≡ get_or l i e
-  get_or-there i [] d e h = absurd (omega (arith, h))
-  get_or-there zero (x ∷ l) d e h = refl
-  get_or-there (suc i) (x ∷ l) d e h = get_or-there i l d e (omega (arith, h))
 
   -- Other elements in use ---------------------------------------------------------------------------------------------------
 

@@ -9,8 +9,9 @@ use borrow.Author.Tests.{eqb-true, eqb-false}
 use lib.Dec.{eqb}
 use lib.ListN.{length, get_or, set, take, drop, length-append}
 use lib.Seq.{get_or-set_same, get_or-set_other}
+use Rattle.std.proofs.lemmas.Bool.{or_parts}
 use Rattle.lists.specs.Lists.{keep, any, Found, nothing, first, behind, find, All}
-use Rattle.lists.proofs.Choices.{by-test, neither}
+use Rattle.lists.proofs.Choices.{by-test}
 
 module _ {A : Type 0} where
   pub keep-yes : (p : A → Bool) (x : A) (xs : List A) → p x ≡ true → keep p (x ∷ xs) ≡ x ∷ keep p xs
@@ -45,10 +46,6 @@ module _ {A : Type 0} where
   pub all_append : (P : A → Type 0) (l m : List A) → All P l → All P m → All P (l ++ m)
   all_append P [] m a b = b
   all_append P (x ∷ l) m a b = (a.0, all_append P l m a.1 b)
-
-  pub all-front : (P : A → Type 0) (l m : List A) → All P (l ++ m) → All P l
-  all-front P [] m a = tt
-  all-front P (x ∷ l) m a = (a.0, all-front P l m a.1)
 
   pub all_back : (P : A → Type 0) (l m : List A) → All P (l ++ m) → All P m
   all_back P [] m a = a
@@ -149,7 +146,7 @@ module _ {A : Type 0} where
   unfolding any
   all_but p P Q [] f e a = tt
   all_but p P Q (x ∷ l) f e a =
-      let n = neither {x = p x} {y = any p l} e in (f x a.0 n.0, all_but p P Q l f n.1 a.1)
+      let n = or_parts (p x) (any p l) e in (f x a.0 n.0, all_but p P Q l f n.1 a.1)
 
   -- What holds of all holds of the one in the middle, and of the others.
   pub all_middle : (P : A → Type 0) (f : List A) (x : A) (b : List A) → All P (f ++ (x ∷ b)) → All P (x ∷ (f ++ b))

@@ -9,17 +9,17 @@ use lib.Dec.{ltb}
 use lib.ListN.{length}
 use Rattle.std.specs.List as Std
 use Rattle.std.specs.Prelude as Prelude
-use Rattle.std.specs.Prelude.{Option, Some, None, is_some}
+use Rattle.std.specs.Prelude.{Some, None, is_some}
 use Rattle.lists.specs.Lists.{any, all}
 use Rattle.lists.specs.Arrays.{position, place_in}
 use Rattle.lists.proofs.Arrays.{position-most, position-any}
 use Rattle.lists.proofs.Choices.{by-test}
 
 module _ {A : Type 0} (p : A → Bool) where
-  pub all-list : (l : List A) → Std.list_all p l ≡ all p l
+  pub all_list : (l : List A) → Std.list_all p l ≡ all p l
   unfolding all
-  all-list [] = refl
-  all-list (x ∷ l) = ap (λ (b : Bool). p x && b) (all-list l)
+  all_list [] = refl
+  all_list (x ∷ l) = ap (λ (b : Bool). p x && b) (all_list l)
 
   pub any-list : (l : List A) → Std.list_any p l ≡ any p l
   unfolding any

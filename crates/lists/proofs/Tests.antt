@@ -3,44 +3,38 @@ use Prim.Native.Nat.{ℕ, zero, suc, ◌≤◌, ◌<◌}
 use native.Mathlib.Omega.{arith}
 use mathlib.Core.Path.{◌≡◌, ◌∙◌, refl, sym, ap}
 use mathlib.Core.Bool.{Bool, true}
-use mathlib.Core.List.{List, [], ◌∷◌, ◌++◌}
+use mathlib.Core.List.{List, [], ◌∷◌}
 use lib.ListN.{length, get_or, set, take}
 use lib.Seq.{get_or-take, length-take-le}
+use Rattle.std.proofs.lemmas.Bool.{and_parts, and_from}
 use Rattle.lists.specs.Lists.{all, All}
-use Rattle.lists.proofs.Choices.{both, and-true}
 
 module _ {A : Type 0} (p : A → Bool) where
   -- One test after the other, and all at once.
   pub all-each : (l : List A) → all p l ≡ true → All (λ (x : A). p x ≡ true) l
   unfolding all
   all-each [] h = tt
-  all-each (x ∷ l) h = let t = both {x = p x} {y = all p l} h in (t.0, all-each l t.1)
+  all-each (x ∷ l) h = let t = and_parts (p x) (all p l) h in (t.0, all-each l t.1)
 
   pub each_all : (l : List A) → All (λ (x : A). p x ≡ true) l → all p l ≡ true
   unfolding all
   each_all [] a = refl
-  each_all (x ∷ l) a = and-true a.0 (each_all l a.1)
-
-  -- Two lists put together.
-  pub pass-append : (l m : List A) → all p l ≡ true → all p m ≡ true → all p (l ++ m) ≡ true
-  unfolding all
-  pass-append [] m h k = k
-  pass-append (x ∷ l) m h k = let t = both {x = p x} {y = all p l} h in and-true t.0 (pass-append l m t.1 k)
+  each_all (x ∷ l) a = and_from _ _ a.0 (each_all l a.1)
 
   -- A list with another that passes in a place.
   pub all_set : (l : List A) (i : ℕ) (x : A) → p x ≡ true → all p l ≡ true → all p (set l i x) ≡ true
   unfolding all
   all_set [] i x e h = refl
-  all_set (y ∷ l) zero x e h = and-true e (both {x = p y} {y = all p l} h).1
+  all_set (y ∷ l) zero x e h = and_from _ _ e (and_parts (p y) (all p l) h).1
   all_set (y ∷ l) (suc i) x e h =
-      let t = both {x = p y} {y = all p l} h in and-true t.0 (all_set l i x e t.1)
+      let t = and_parts (p y) (all p l) h in and_from _ _ t.0 (all_set l i x e t.1)
 
   -- One of those that all pass, and one of the first n of an array that do.
   pub all-at : (l : List A) (i : ℕ) (d : A) → all p l ≡ true → i < length l → p (get_or l i d) ≡ true
   unfolding all
   all-at [] i d h k = absurd (omega (arith, k))
-  all-at (x ∷ l) zero d h k = (both {y = all p l} h).0
-  all-at (x ∷ l) (suc i) d h k = all-at l i d (both {x = p x} h).1 (omega (arith, k))
+  all-at (x ∷ l) zero d h k = (and_parts _ (all p l) h).0
+  all-at (x ∷ l) (suc i) d h k = all-at l i d (and_parts (p x) _ h).1 (omega (arith, k))
 
   pub used-at :
       (n : ℕ) (l : List A) (i : ℕ) (d : A)

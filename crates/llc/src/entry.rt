@@ -26,10 +26,11 @@ pub const STORE: usize = STORE_PLACES * PLACE_BYTES;
 pub const OUTPUT: usize = 47_040;
 
 // Are store and output as long as they must be?
+#[tactic(auto, using(crate::proofs::Ways::asked), unfolding(crate::specs::Entry::lent_right))]
 fn lent_right(store: &[u8], out: &[u8]) -> bool
     ensures { result ≡ lent_right (bits store.now) out.now }
 {
-    (store.len() == STORE) & (OUTPUT <= out.len())
+    store.len() == STORE && OUTPUT <= out.len()
 }
 
 // Is a call a start?
@@ -63,7 +64,7 @@ fn act(state: &mut State, store: &mut [u8], out: &mut [u8], call: Call) -> Resul
 }
 
 // Puts questions 1 to 5 to a call, and makes it.
-#[tactic(auto, using(crate::proofs::Ways::asked))]
+#[tactic(auto, using(crate::proofs::Ways::asked), unfolding(crate::specs::Entry::lent_right, crate::specs::Entry::call_of, crate::specs::Entry::outcome_of, llc_steps::specs::Steps::steps, llc_steps::specs::Steps::called))]
 fn step(state: &mut State, store: &mut [u8], out: &mut [u8], bytes: &[u8]) -> Result<usize, Refusal>
     ensures { effect (answered state.new result) (bits store.new) out.new ≡ entry_call state.old (bits store.old) out.old bytes.now }
 {

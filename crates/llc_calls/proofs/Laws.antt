@@ -1,11 +1,6 @@
--- The laws for callers: how many bits a part has, and question 5 on what was taken apart is question 5 on the call.
-use native.Mathlib.Omega.{arith}
+-- The law for callers: question 5 on what was taken apart is question 5 on the call.
 use mathlib.Core.Path.{◌≡◌, refl}
-use lib.ListN.{length}
-use Rattle.bits.specs.Bits.{bits}
-use Rattle.bits.specs.Parts.{bits_of}
-use Rattle.bits.specs.declared.parts.Part.{Part}
-use Rattle.bits.proofs.Laws.{length_part, length-bits}
+use Rattle.bits.proofs.PartLaws.{length-bits_of}
 use Rattle.llc_rule.specs.Ranges.{in_range, request_in_range, frame_in_range}
 use Rattle.llc_calls.specs.Decoded.{request_of, frame_of, call_of}
 use Rattle.llc_calls.specs.Ranges.{request_range, frame_range, in_range_of}
@@ -14,16 +9,13 @@ use Rattle.llc_calls.specs.declared.FrameCall.{FrameCall}
 use Rattle.llc_calls.specs.declared.Call.{Call}
 use Rattle.llc_calls.specs.declared.Call.TheVariants.{Start, TickStart, TickEnd, Request, Frame, ByReceipt}
 
-pub bits-length : (p : Part) → length (bits_of p) ≡ p.len
-bits-length p = length_part (bits p.bytes.now) p.place p.len (omega (arith, length-bits p.bytes.now, p.inside))
-
 pub request-range : (q : RequestCall) → request_range q ≡ request_in_range (request_of q)
 unfolding request_range request_in_range request_of
-request-range q = rw (bits-length q.sdu)
+request-range q = rw (length-bits_of q.sdu)
 
 pub frame-range : (f : FrameCall) → frame_range f ≡ frame_in_range (frame_of f)
 unfolding frame_range frame_in_range frame_of
-frame-range f = rw (bits-length f.pdu)
+frame-range f = rw (length-bits_of f.pdu)
 
 pub in-range : (c : Call) → in_range_of c ≡ in_range (call_of c)
 unfolding in_range_of in_range

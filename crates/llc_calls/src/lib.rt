@@ -4,6 +4,7 @@
 ghost use Rattle.std.specs.Prelude.{◌^◌, ◌<◌, ◌≡◌, length};
 
 mod decoding;
+mod flags;
 mod numbers;
 mod ranges;
 

@@ -1,7 +1,7 @@
 // Question 5: are the values of a call in range?
-ghost use Rattle.std.specs.Prelude.{◌≡◌};
-ghost use Rattle.llc_rule.specs.Ranges.{action_in_range};
-ghost use Rattle.llc_calls.specs.Decoded.{action_of};
+ghost use Rattle.std.specs.Prelude.{◌≡◌, ◌&&◌, ◌||◌, leb, eqb, ltb};
+ghost use Rattle.llc_rule.specs.Ranges.{action_in_range, has_mask};
+ghost use Rattle.llc_calls.specs.Decoded.{action_of, request_of};
 ghost use Rattle.llc_calls.specs.Ranges.{in_range_of, request_range, frame_range};
 
 use crate::{Action, Call, FrameCall, RequestCall};
@@ -22,25 +22,37 @@ impl<'a> Call<'a> {
             Call::TickEnd => true,
             Call::Request(_, q) => request_in_range(q),
             Call::Frame(f) => frame_in_range(f),
-            Call::ByReceipt(receipt, action) => (*receipt < 128) & action_in_range(*action),
+            Call::ByReceipt(receipt, action) => *receipt < 128 && action_in_range(*action),
         }
     }
 }
 
-// Type, carrier-given, carrier 0 if not given, flags, mask and 0 without flag 4, receipt, block and SDU.
-#[tactic(auto, unfolding(crate::specs::Ranges::request_range))]
+// Type, carrier, flags, mask, receipt, block and SDU.
+#[tactic(auto, unfolding(crate::specs::Decoded::request_of, crate::specs::Ranges::request_range))]
 fn request_in_range(q: &RequestCall) -> bool
     ensures { result ≡ request_range q.now }
 {
-    ((q.ssi_type == 1) | (q.ssi_type == 2))
-        & (q.given <= 1)
-        & ((q.given == 1) | (q.carrier == 0))
-        & (q.flags < 8)
-        & (q.mask < 16)
-        & ((q.flags / 4 % 2 == 1) | (q.mask == 0))
-        & (q.receipt < 128)
-        & (q.block.len() <= 64)
-        & (q.sdu.len <= N251_BL_MAX_TLSDU_LEN_BITS)
+    matches!(q.ssi_type, 1 | 2)
+        && carrier_in_range(q)
+        && q.flags < 8
+        && mask_in_range(q)
+        && q.receipt < 128
+        && q.block.len() <= 64
+        && q.sdu.len <= N251_BL_MAX_TLSDU_LEN_BITS
+}
+
+// Carrier-given, and 0 if it is not given.
+fn carrier_in_range(q: &RequestCall) -> bool
+    ensures { result ≡ (leb q.now.given 1 && (eqb q.now.given 1 || eqb q.now.carrier 0)) }
+{
+    q.given <= 1 && (q.given == 1 || q.carrier == 0)
+}
+
+// The mask, and 0 without its flag.
+fn mask_in_range(q: &RequestCall) -> bool
+    ensures { result ≡ (ltb q.now.mask 16 && (has_mask (request_of q.now) || eqb q.now.mask 0)) }
+{
+    q.mask < 16 && (q.has_mask() || q.mask == 0)
 }
 
 // Type, block and PDU.
@@ -48,7 +60,7 @@ fn request_in_range(q: &RequestCall) -> bool
 fn frame_in_range(f: &FrameCall) -> bool
     ensures { result ≡ frame_range f.now }
 {
-    ((f.ssi_type == 1) | (f.ssi_type == 2)) & (f.block.len() <= 64) & (f.pdu.len <= LONGEST_FRAME)
+    matches!(f.ssi_type, 1 | 2) && f.block.len() <= 64 && f.pdu.len <= LONGEST_FRAME
 }
 
 // The value of a report.
@@ -56,7 +68,7 @@ fn action_in_range(action: Action) -> bool
     ensures { result ≡ action_in_range (action_of action) }
 {
     match action {
-        Action::Report(how) => (how == 1) | (how == 2),
+        Action::Report(how) => matches!(how, 1 | 2),
         Action::Release => true,
     }
 }

@@ -1,5 +1,5 @@
 -- The message that an acknowledgement is for, by its place in the queue.
-use Prim.Native.Nat.{ℕ, zero, suc, ◌≤◌, ◌<◌}
+use Prim.Native.Nat.{ℕ, suc, ◌≤◌, ◌<◌}
 use native.Mathlib.Omega.{arith}
 use mathlib.Core.Path.{◌≡◌, ◌∙◌, refl, sym, ap, ap₂}
 use mathlib.Core.Bool.{Bool, true, false, not, ◌&&◌, ◌||◌}
@@ -10,31 +10,28 @@ use lib.Dec.{ltb}
 use lib.ListN.{length, get_or, take, drop, drop_of_length-le, length-take}
 use lib.Seq.{drop-cons, get_or-take, length-take-le}
 use Rattle.std.specs.Prelude.{Option as Given, Some, None}
+use Rattle.std.proofs.lemmas.List.{get_or_default}
+use Rattle.std.proofs.lemmas.Bool.{cond-true, cond-false}
 use Rattle.lists.specs.Lists.{all, Found, nothing, first, behind, find}
 use Rattle.lists.specs.Arrays.{position, without, fronted}
-use Rattle.lists.proofs.Arrays.{get_or-there}
-use Rattle.lists.proofs.Choices.{by-test, both, if-true, if-false}
+use Rattle.lists.proofs.Choices.{by-test}
+use Rattle.lists.proofs.Tests.{all-at}
 use Rattle.questions.specs.Outcome.{Outcome, accepted, refused, ask}
 use Rattle.tx_receipt.specs.Marks.{acknowledged, allowed}
 use Rattle.llc_calls.specs.Decoded.{frame_of}
 use Rattle.llc_calls.specs.declared.FrameCall.{FrameCall}
-use Rattle.llc_pdus.specs.Headers.{nr_of}
-use Rattle.llc_pdus.specs.declared.Pdu.{Pdu}
-use Rattle.llc_state.specs.Ranges.{message_in_range, state_in_range}
+use Rattle.llc_state.specs.Ranges.{message_in_range}
 use Rattle.llc_state.specs.Receipts.{receipt_of, place_of, mark_receipt}
 use Rattle.llc_state.specs.declared.Entry.{Entry}
 use Rattle.llc_state.specs.declared.ReceiptPlace.{ReceiptPlace}
 use Rattle.llc_state.specs.declared.State.{State}
-use Rattle.llc_state.proofs.InRange.{range-tells, entry-tells, message-tells}
+use Rattle.llc_state.proofs.InRange.{entry-tells, message-tells}
 use Rattle.llc_steps.specs.Calls.{fits, expected, finishable, may_finish, answered_by, answered}
 use Rattle.llc_steps.specs.States.{messages_of, with_messages}
 use Rattle.llc_queues.specs.Queues.{expected_on}
 use Rattle.llc_frames.specs.Answered.{found_in, found_at, acked_at}
 use Rattle.llc_frames.specs.Numbers.{below, ack_place}
-
--- What question 1 says of the number of messages.
-pub few_messages : (s : State) → state_in_range s ≡ true → s.n_messages ≤ 64
-few_messages s h = (range-tells s h).head.messages
+use Rattle.llc_frames.specs.declared.acked.AckPlace.{AckPlace}
 
 module _ {A : Type 0} where
   -- What `find` gives is what stands in the place at which the search ends.
@@ -71,18 +68,11 @@ module _ {A : Type 0} where
       → found_at i (take n l) ≡ first (get_or l i d) (without i (take n l))
   found_first n i l d h k = ap (λ (t : List A). found_in t (without i (take n l))) (array-next n i l d h k)
 
-  -- What is asked of all holds of the element in a place.
-  all-at : (p : A → Bool) (l : List A) (i : ℕ) (d : A) → all p l ≡ true → i < length l → p (get_or l i d) ≡ true
-  unfolding all
-  all-at p [] i d a h = absurd (omega (arith, h))
-  all-at p (x ∷ l) zero d a h = (both {x = p x} {y = all p l} a).0
-  all-at p (x ∷ l) (suc i) d a h = all-at p l i d (both {x = p x} {y = all p l} a).1 (omega (arith, h))
-
 -- A message in use: it is the element of the array, and has a receipt that there is.
 module _ (s : State) (i : ℕ) (long : s.n_messages ≤ length s.outbound_messages) (h : i < s.n_messages) (d : Entry) {e : Entry} where
   pub message-is : (b : Entry) → e ≡ get_or (messages_of s) i d → e ≡ get_or s.outbound_messages i b
   message-is b e-is =
-      e-is ∙ get_or-take s.n_messages s.outbound_messages i d h ∙ get_or-there i s.outbound_messages d b (omega arith)
+      e-is ∙ get_or-take s.n_messages s.outbound_messages i d h ∙ get_or_default s.outbound_messages i d b (omega arith)
 
   pub receipt-in : e ≡ get_or (messages_of s) i d → all message_in_range (messages_of s) ≡ true → e.sent.receipt < 128
   receipt-in e-is a =
@@ -91,22 +81,21 @@ module _ (s : State) (i : ℕ) (long : s.n_messages ≤ length s.outbound_messag
       (entry-tells e m.entry).receipt
 
 -- Question 14 of a frame with an N(R), and the place of its message.
-module _ (s : State) (f : FrameCall) (p : Pdu) {nr : Bool} (number : nr_of p ≡ some nr) where
+module _ (s : State) (f : FrameCall) (nr : Bool) where
   abbrev place : ℕ
   place = position (expected_on f.ssi f.carrier) (messages_of s)
 
-  abbrev asked : Outcome (Given ℕ)
-  asked = ask 14 (may_finish (frame_of f) (nr_of p) s) (accepted (ack_place f.ssi f.carrier (nr_of p) s))
+  abbrev asked : Outcome (Given AckPlace)
+  asked = ask 14 (may_finish (frame_of f) (some nr) s) (accepted (ack_place f.ssi f.carrier (some nr) s))
 
-  abbrev asked_at : ℕ → Outcome (Given ℕ)
-  asked_at i = ask 14 (finishable nr (found_at i (messages_of s)) s) (accepted (below s.n_messages i))
+  abbrev asked_at : ℕ → Outcome (Given AckPlace)
+  asked_at i = ask 14 (finishable nr (found_at i (messages_of s)) s) (accepted (below s.n_messages i nr))
 
   asked-is : {i : ℕ} → i ≡ place → asked_at i ≡ asked
   unfolding frame_of expected
   asked-is e =
       ap asked_at e
-      ∙ sym (ap (λ (g : Found Entry). ask 14 (finishable nr g s) (accepted (below s.n_messages place))) (found-is (expected_on f.ssi f.carrier) (messages_of s)))
-      ∙ sym (ap (λ (x : Option Bool). ask 14 (may_finish (frame_of f) x s) (accepted (ack_place f.ssi f.carrier x s))) number)
+      ∙ sym (ap (λ (g : Found Entry). ask 14 (finishable nr g s) (accepted (below s.n_messages place nr))) (found-is (expected_on f.ssi f.carrier) (messages_of s)))
 
   -- There is none.
   pub none-asked : s.n_messages ≡ place → accepted None ≡ asked
@@ -122,17 +111,17 @@ module _ (s : State) (f : FrameCall) (p : Pdu) {nr : Bool} (number : nr_of p ≡
     abbrev receipt : ReceiptPlace
     receipt = place_of s.receipts entry.sent.receipt
 
-    at-is : ask 14 (not (fits nr entry) || (receipt.taken && allowed acknowledged (receipt_of receipt))) (accepted (Some i)) ≡ asked
+    at-is : ask 14 (not (fits nr entry) || (receipt.taken && allowed acknowledged (receipt_of receipt))) (accepted (Some (record { place = i; nr = nr }))) ≡ asked
     at-is =
         rw (found_first s.n_messages i s.outbound_messages d long h, lt-ltb i s.n_messages h) at (asked-is e)
 
     pub refused-asked : fits nr entry ≡ true → receipt.taken && allowed acknowledged (receipt_of receipt) ≡ false → refused 14 ≡ asked
     refused-asked fit not-awaiting = rw (fit, not-awaiting) at at-is
 
-    pub unfit-asked : fits nr entry ≡ false → accepted (Some i) ≡ asked
+    pub unfit-asked : fits nr entry ≡ false → accepted (Some (record { place = i; nr = nr })) ≡ asked
     unfit-asked unfit = rw unfit at at-is
 
-    pub fit-asked : fits nr entry ≡ true → receipt.taken && allowed acknowledged (receipt_of receipt) ≡ true → accepted (Some i) ≡ asked
+    pub fit-asked : fits nr entry ≡ true → receipt.taken && allowed acknowledged (receipt_of receipt) ≡ true → accepted (Some (record { place = i; nr = nr })) ≡ asked
     fit-asked fit awaiting = rw (fit, awaiting) at at-is
 
 -- What an N(R) does to the message of a place.
@@ -148,7 +137,7 @@ module _ (s : State) (i : ℕ) (nr : Bool) (d : Entry) (long : s.n_messages ≤ 
   fit-answered e f k-is g =
       g
       ∙ ap₂ (λ (u : State) (k : ℕ). mark_receipt u k acknowledged) f k-is
-      ∙ sym (ap (λ (u : Found Entry). answered_by nr u s) (found_first s.n_messages i s.outbound_messages d long h) ∙ if-true _ _ e)
+      ∙ sym (ap (λ (u : Found Entry). answered_by nr u s) (found_first s.n_messages i s.outbound_messages d long h) ∙ cond-true _ _ _ e)
 
   pub unfit-answered :
       {r : State}
@@ -160,12 +149,12 @@ module _ (s : State) (i : ℕ) (nr : Bool) (d : Entry) (long : s.n_messages ≤ 
       let m : List Entry = messages_of s in
       g
       ∙ ap (λ (t : List Entry). with_messages s (take 1 t ++ without i m)) (array-next s.n_messages i s.outbound_messages d long h)
-      ∙ sym (ap (λ (u : Found Entry). answered_by nr u s) (found_first s.n_messages i s.outbound_messages d long h) ∙ if-false _ _ e)
+      ∙ sym (ap (λ (u : Found Entry). answered_by nr u s) (found_first s.n_messages i s.outbound_messages d long h) ∙ cond-false _ _ _ e)
 
 -- That is what a frame's N(R) does, at the place of the message that it is for.
 pub acked-is :
     (f : FrameCall) (x : Option Bool) (s : State)
-    → acked_at (ack_place f.ssi f.carrier x s) x s ≡ answered (frame_of f) x s
+    → acked_at (ack_place f.ssi f.carrier x s) s ≡ answered (frame_of f) x s
 unfolding frame_of expected answered_by
 acked-is f none s = refl
 acked-is f (some nr) s =

@@ -3,16 +3,14 @@ use Prim.Native.Nat.{ℕ, ◌+◌, ◌*◌, ◌≤◌, ◌<◌}
 use native.Mathlib.Omega.{arith}
 use native.Mathlib.Nat.{zero-add}
 use mathlib.Core.Path.{◌≡◌, ◌∙◌, refl, sym, ap, ap₂}
-use mathlib.Core.Bool.{Bool, true, false, cond, ◌&&◌}
-use mathlib.Core.List.{List, [], ◌∷◌, append-nil}
+use mathlib.Core.Bool.{Bool, true, false, cond}
+use mathlib.Core.List.{List, []}
 use mathlib.Core.Option.{Option, none, some}
-use borrow.Author.Tests.{leb-true}
-use lib.Dec.{leb}
 use lib.ListN.{length, take, drop}
 use Rattle.std.specs.Prelude.{Option as Given, Result, Ok, Err}
 use Rattle.lists.specs.Writes.{Wrote}
 use Rattle.lists.proofs.Writes.{write-is}
-use Rattle.lists.proofs.Choices.{both, either}
+use Rattle.lists.proofs.Choices.{either}
 use Rattle.questions.specs.Outcome.{Outcome, accepted, refused, ask, number}
 use Rattle.questions.specs.Refusals.{number_of}
 use Rattle.questions.specs.declared.Refusal.{Refusal}
@@ -24,27 +22,26 @@ use Rattle.llc_pdus.specs.Headers.{ns_of, nr_of}
 use Rattle.llc_pdus.specs.Received.{Received, received}
 use Rattle.llc_pdus.specs.Sdus.{sdu_at, holding, handed}
 use Rattle.llc_pdus.specs.declared.Pdu.{Pdu}
-use Rattle.llc_pdus.specs.declared.Pdu.TheVariants.{BlAdata, BlData, BlUdata, BlAck}
 use Rattle.llc_pdus.specs.declared.Sdu.{Sdu}
 use Rattle.llc_pdus.proofs.Holding.{held-is, handed-in}
 use Rattle.llc_pdus.proofs.Received.{ReadAs, read_as}
 use Rattle.llc_rule.specs.Limits.{longest_frame, output_bytes}
-use Rattle.llc_rule.specs.Calls.{Frame}
-use Rattle.llc_rule.specs.Ranges.{is_type}
 use Rattle.llc_rule.specs.Upward.{upward}
-use Rattle.llc_rule.specs.Records.{Record, bytes, all_bytes}
-use Rattle.llc_rule.proofs.Records.{most_up, small-indication}
+use Rattle.llc_rule.specs.Records.{Record, all_bytes}
+use Rattle.llc_rule.proofs.Records.{most_up}
 use Rattle.llc_calls.specs.Decoded.{frame_of}
 use Rattle.llc_calls.specs.Ranges.{frame_range}
 use Rattle.llc_calls.specs.declared.FrameCall.{FrameCall}
-use Rattle.llc_received.specs.Upward.{sent_up}
+use Rattle.llc_received.proofs.SentUp.{frame_small, up-size}
 use Rattle.llc_state.specs.declared.State.{State}
 use Rattle.llc_steps.specs.Answers.{effect, answer, answered as answer_of, laid_out, delivered, WithAnyStore}
 use Rattle.llc_steps.specs.Calls as Calls
 use Rattle.llc_steps.specs.Calls.{row_if_numbered, ack_room, numbered, is_repeat, may_finish, on_received}
 use Rattle.llc_steps.specs.States.{Kept, kept}
 use Rattle.llc_frames.specs.Answered.{acked_at}
-use Rattle.llc_frames.specs.Numbers.{row_place, ack_place}
+use Rattle.llc_frames.specs.Numbers.{row_place, ns_in, ack_place}
+use Rattle.llc_frames.specs.declared.acked.AckPlace.{AckPlace}
+use Rattle.llc_frames.specs.declared.numbered.SeqRow.{SeqRow}
 use Rattle.llc_frames.proofs.Found.{acked-is}
 
 -- A call that is refused, and one that writes records and leaves another state.
@@ -93,33 +90,6 @@ refused-on {A} {B} n false e f = sym (ap again e)
 never : {A B : Type 0} {m : ℕ} {x : A} {q : Outcome B} → refused m ≡ accepted x → q ≡ refused m
 never e = absurd (cc)
 
--- How much room what goes up takes at most.
-up-size :
-    (f : Frame) (p : Pdu) (sdu : List ℕ)
-    → length f.block ≤ 64
-    → length sdu ≤ longest_frame
-    → length (all_bytes (upward f p sdu)) ≤ most_up
-unfolding upward all_bytes bytes
-up-size f (BlAdata c nr ns) sdu hb hs = rw append-nil (small-indication 4 (sent_up f f.link c sdu) hb hs)
-up-size f (BlData c ns) sdu hb hs = rw append-nil (small-indication 4 (sent_up f f.link c sdu) hb hs)
-up-size f (BlUdata c) sdu hb hs = rw append-nil (small-indication 5 (sent_up f 0 c sdu) hb hs)
-up-size f (BlAck c nr) [] hb hs = omega arith
-up-size f (BlAck c nr) (b ∷ sdu) hb hs = rw append-nil (small-indication 4 (sent_up f 0 c (b ∷ sdu)) hb hs)
-
--- What question 5 says of the lengths of a frame.
-pub frame_small : (f : FrameCall) → frame_range f ≡ true → (length f.block.now ≤ 64) × (f.pdu.len ≤ longest_frame)
-unfolding frame_range
-frame_small f h =
-    let e = both {x = is_type f.ssi_type && leb (length f.block.now) 64} {y = leb f.pdu.len longest_frame} h in
-    (leb-true (length f.block.now) 64 (both {x = is_type f.ssi_type} {y = leb (length f.block.now) 64} e.0).1, leb-true f.pdu.len longest_frame e.1)
-
-pub up-most : (f : FrameCall) (p : Pdu) (sdu : List ℕ)
-    → frame_range f ≡ true
-    → length sdu ≤ longest_frame
-    → length (all_bytes (upward (frame_of f) p sdu)) ≤ most_up
-unfolding frame_of
-up-most f p sdu h short = up-size (frame_of f) p sdu (frame_small f h).0 short
-
 -- N(S) leaves the messages.
 same_place :
     (f : FrameCall) (x y : Option Bool) (s : State)
@@ -128,16 +98,21 @@ same_place f x none s = refl
 same_place f none (some ns) s = refl
 same_place f (some nr) (some ns) s = refl
 
+-- The N(S) that stands with a row is the one that the row was looked up for.
+ns-placed : (ssi : ℕ) (x : Option Bool) (s : State) → ns_in (row_place ssi x s) ≡ x
+ns-placed ssi none s = refl
+ns-placed ssi (some ns) s = refl
+
 -- The frame f with the PDU p and its SDU.
 module _ (s : State) (f : FrameCall) (p : Pdu) (sdu : List ℕ) where
   abbrev outcome_of : List ℕ → Outcome Kept
   outcome_of store = on_received (frame_of f) (accepted (record { header = p; sdu = sdu })) s store
 
-  abbrev row_asked : Outcome (Given ℕ)
+  abbrev row_asked : Outcome (Given SeqRow)
   row_asked =
       ask 7 (row_if_numbered f.ssi (ns_of p) s) (ask 13 (ack_room (ns_of p) s) (accepted (row_place f.ssi (ns_of p) s)))
 
-  abbrev place_asked : Outcome (Given ℕ)
+  abbrev place_asked : Outcome (Given AckPlace)
   place_asked = ask 14 (may_finish (frame_of f) (nr_of p) s) (accepted (ack_place f.ssi f.carrier (nr_of p) s))
 
   -- Question 7 or 13 refuses it.
@@ -148,20 +123,23 @@ module _ (s : State) (f : FrameCall) (p : Pdu) (sdu : List ℕ) where
       (λ store. refused-on 7 (row_if_numbered f.ssi (ns_of p) s) e (λ e₁. refused-on 13 (ack_room (ns_of p) s) e₁ never))
 
   -- Both passed.
-  pub record Numbered (row : Given ℕ) : Type 0 where
+  pub record Numbered (row : Given SeqRow) : Type 0 where
     pub row_free : row_if_numbered f.ssi (ns_of p) s ≡ true
     pub ack_free : ack_room (ns_of p) s ≡ true
-    pub row_is : row ≡ row_place f.ssi (ns_of p) s
+    pub number : ns_in row ≡ ns_of p
+    pub row_is : row ≡ row_place f.ssi (ns_in row) s
 
-  pub numbers : {row : Given ℕ} → accepted row ≡ row_asked → Numbered row
-  numbers e =
+  pub numbers : {row : Given SeqRow} → accepted row ≡ row_asked → Numbered row
+  numbers {row} e =
       let a = accepted-passed 7 (row_if_numbered f.ssi (ns_of p) s) e in
       let b = accepted-passed 13 (ack_room (ns_of p) s) a.1 in
-      record { row_free = a.0; ack_free = b.0; row_is = let h = b.1 in cc }
+      let is : row ≡ row_place f.ssi (ns_of p) s = let h = b.1 in cc in
+      let number = ap ns_in is ∙ ns-placed f.ssi (ns_of p) s in
+      record { row_free = a.0; ack_free = b.0; number = number; row_is = rw number is }
 
   -- Question 14 refuses it.
   pub place-refused :
-      (r : Refusal) {row : Given ℕ} (out : List ℕ)
+      (r : Refusal) {row : Given SeqRow} (out : List ℕ)
       → Numbered row
       → refused (number_of r) ≡ place_asked
       → WithAnyStore (answer_of s (Err r)) out s out outcome_of
@@ -172,27 +150,27 @@ module _ (s : State) (f : FrameCall) (p : Pdu) (sdu : List ℕ) where
       ask-yes 7 _ n.row_free ∙ ask-yes 13 _ n.ack_free ∙ refused-on 14 (may_finish (frame_of f) (nr_of p) s) e never)
 
   -- It passed.
-  pub record Answers (place : Given ℕ) : Type 0 where
+  pub record Answers (place : Given AckPlace) : Type 0 where
     pub finishes : may_finish (frame_of f) (nr_of p) s ≡ true
     pub place_is : place ≡ ack_place f.ssi f.carrier (nr_of p) s
 
-  pub answers : {place : Given ℕ} → accepted place ≡ place_asked → Answers place
+  pub answers : {place : Given AckPlace} → accepted place ≡ place_asked → Answers place
   answers e =
       let a = accepted-passed 14 (may_finish (frame_of f) (nr_of p) s) e in
       record { finishes = a.0; place_is = let h = a.1 in cc }
 
   -- After N(S) the place is still that of the message.
-  module _ {place : Given ℕ} (a : Answers place) {next : State} (next-is : next ≡ numbered f.ssi f.ssi_type f.carrier (ns_of p) s) where
+  module _ {place : Given AckPlace} (a : Answers place) {next : State} (next-is : next ≡ numbered f.ssi f.ssi_type f.carrier (ns_of p) s) where
     place-next : place ≡ ack_place f.ssi f.carrier (nr_of p) next
     place-next =
         a.place_is ∙ same_place f (nr_of p) (ns_of p) s ∙ sym (ap (ack_place f.ssi f.carrier (nr_of p)) next-is)
 
     -- What the code leaves, and what it sends up.
     pub frame-heard :
-        {t : State} {row : Given ℕ} {out m : List ℕ} {k : ℕ} {repeat : Bool}
+        {t : State} {row : Given SeqRow} {out m : List ℕ} {k : ℕ} {repeat : Bool}
         → Numbered row
         → repeat ≡ is_repeat f.ssi (ns_of p) s
-        → t ≡ acked_at place (nr_of p) next
+        → t ≡ acked_at place next
         → frame_range f ≡ true
         → length sdu ≤ longest_frame
         → output_bytes ≤ length out
@@ -201,12 +179,12 @@ module _ (s : State) (f : FrameCall) (p : Pdu) (sdu : List ℕ) where
     unfolding on_received frame_of all_bytes
     frame-heard {t} {row} {out} {repeat = repeat} n again u range short room w =
         let most : length (all_bytes (cond repeat [] (upward (frame_of f) p sdu))) ≤ most_up =
-        either (λ (rs : List Record). length (all_bytes rs) ≤ most_up) repeat (omega arith) (up-most f p sdu range short)
+        either (λ (rs : List Record). length (all_bytes rs) ≤ most_up) repeat (omega arith) (up-size (frame_of f) p sdu (frame_small f range).0 short)
         in
         let left =
         sym
         (u
-        ∙ ap (λ (g : Given ℕ). acked_at g (nr_of p) next) place-next
+        ∙ ap (λ (g : Given AckPlace). acked_at g next) place-next
         ∙ acked-is f (nr_of p) next
         ∙ ap (λ (x : State). Calls.answered (frame_of f) (nr_of p) x) next-is)
         in

@@ -6,17 +6,23 @@ use Rattle.llc_state.specs.declared.State.{State}
 use Rattle.llc_steps.specs.Calls.{row_of}
 use Rattle.llc_steps.specs.States.{messages_of, rows_of}
 use Rattle.llc_queues.specs.Queues.{expected_on}
+use Rattle.llc_frames.specs.declared.acked.AckPlace.{AckPlace}
+use Rattle.llc_frames.specs.declared.numbered.SeqRow.{SeqRow}
 
--- The place of the row of an SSI, for an N(S).
-abbrev pub row_place : ℕ → Option Bool → State → Given ℕ
+-- An N(S), with the place of the row of its SSI; and the N(S) of the two.
+abbrev pub row_place : ℕ → Option Bool → State → Given SeqRow
 row_place ssi none s = None
-row_place ssi (some ns) s = Some (position (row_of ssi) (rows_of s))
+row_place ssi (some ns) s = Some (record { row = position (row_of ssi) (rows_of s); ns = ns })
 
--- A place, if it is one of the first n.
-abbrev pub below : ℕ → ℕ → Given ℕ
-below n i = cond (ltb i n) (Some i) None
+abbrev pub ns_in : Given SeqRow → Option Bool
+ns_in None = none
+ns_in (Some r) = some r.ns
 
--- The place of the message that an N(R) is for, if there is one.
-abbrev pub ack_place : ℕ → ℕ → Option Bool → State → Given ℕ
+-- An N(R) with a place, if that is one of the first n.
+abbrev pub below : ℕ → ℕ → Bool → Given AckPlace
+below n i nr = cond (ltb i n) (Some (record { place = i; nr = nr })) None
+
+-- An N(R), with the place of the message that it is for, if there is one.
+abbrev pub ack_place : ℕ → ℕ → Option Bool → State → Given AckPlace
 ack_place ssi carrier none s = None
-ack_place ssi carrier (some nr) s = below s.n_messages (position (expected_on ssi carrier) (messages_of s))
+ack_place ssi carrier (some nr) s = below s.n_messages (position (expected_on ssi carrier) (messages_of s)) nr

@@ -4,7 +4,7 @@ ghost use Rattle.lists.specs.Lists.{all};
 ghost use Rattle.questions.specs.Outcome.{ask, accepted};
 ghost use Rattle.questions.specs.Refusals.{outcome};
 ghost use Rattle.llc_calls.specs.Decoded.{frame_of};
-ghost use Rattle.llc_pdus.specs.Headers.{nr_of};
+ghost use Rattle.llc_pdus.specs.Headers.{option_of};
 ghost use Rattle.llc_state.specs.Ranges.{message_in_range, state_in_range};
 ghost use Rattle.llc_steps.specs.Calls.{fits as fits_to, may_finish};
 ghost use Rattle.llc_steps.specs.States.{messages_of};
@@ -12,7 +12,6 @@ ghost use Rattle.llc_frames.specs.Answered.{acked_at};
 ghost use Rattle.llc_frames.specs.Numbers.{ack_place};
 
 use llc_calls::FrameCall;
-use llc_pdus::Pdu;
 use llc_queues::{expected_ack_for_ssi, push_front_expected_ack, take_expected_ack};
 use llc_state::{Entry, State};
 use questions::Refusal;
@@ -25,39 +24,50 @@ fn fits(e: &Entry, nr: bool) -> bool
     e.progress.has_umac_done && e.progress.ns == nr
 }
 
+// A frame's N(R), with the place of the message that it is for.
+#[derive(Clone, Copy)]
+pub(crate) struct AckPlace {
+    place: usize,
+    nr: bool,
+}
+
 // The place of the message that an N(R) is for, by question 14: where it finishes the message, its receipt must be awaiting.
-#[tactic(auto, using(crate::proofs::Found::few_messages))]
-pub(crate) fn ack_place(state: &State, f: &FrameCall, pdu: Pdu) -> Result<Option<usize>, Refusal>
+#[tactic(auto, using(llc_state::proofs::Counts::few_messages))]
+pub(crate) fn ack_place(
+    state: &State,
+    f: &FrameCall,
+    nr: Option<bool>,
+) -> Result<Option<AckPlace>, Refusal>
     requires { state_in_range state.now ≡ true }
-    ensures { outcome result ≡ ask 14 (may_finish (frame_of f.now) (nr_of pdu) state.now) (accepted (ack_place f.now.ssi f.now.carrier (nr_of pdu) state.now)) }
+    ensures { outcome result ≡ ask 14 (may_finish (frame_of f.now) (option_of nr) state.now) (accepted (ack_place f.now.ssi f.now.carrier (option_of nr) state.now)) }
 {
-    let Some(nr) = pdu.nr() else {
+    let Some(nr) = nr else {
         return Ok(None);
     };
-    let Some(i) = expected_ack_for_ssi(state, f.ssi, f.carrier) else {
+    let Some(place) = expected_ack_for_ssi(state, f.ssi, f.carrier) else {
         return Ok(None);
     };
-    let e = &state.outbound_messages[i];
-    if fits(e, nr) && !state.receipts[e.sent.receipt as usize].is_awaiting() {
+    let e = &state.outbound_messages[place];
+    if fits(e, nr) && !state.receipt_place(e.sent.receipt).is_awaiting() {
         return Err(Refusal::NotAwaiting);
     }
-    Ok(Some(i))
+    Ok(Some(AckPlace { place, nr }))
 }
 
 // An acknowledgement for the message of a place: it finishes the message, or the message goes back to the head of the queue.
-pub(crate) fn process_incoming_ack(state: &mut State, pdu: Pdu, place: Option<usize>)
+pub(crate) fn process_incoming_ack(state: &mut State, ack: Option<AckPlace>)
     requires n_messages_bound { state.old.n_messages ≤ 64 }
     requires messages_value { all message_in_range (messages_of state.old) ≡ true }
-    requires within { IfSome place (λ i. i < state.old.n_messages) }
-    ensures { state.new ≡ acked_at place (nr_of pdu) state.old }
+    requires within { IfSome ack (λ a. a.place < state.old.n_messages) }
+    ensures { state.new ≡ acked_at ack state.old }
 {
-    let (Some(i), Some(nr)) = (place, pdu.nr()) else {
+    let Some(ack) = ack else {
         return;
     };
-    if fits(&state.outbound_messages[i], nr) {
-        let e = take_expected_ack(state, i);
-        state.mark_receipt(e.sent.receipt as usize, Mark::Acknowledged);
+    if fits(&state.outbound_messages[ack.place], ack.nr) {
+        let e = take_expected_ack(state, ack.place);
+        state.mark_receipt(e.sent.receipt, Mark::Acknowledged);
     } else {
-        push_front_expected_ack(state, i);
+        push_front_expected_ack(state, ack.place);
     }
 }

@@ -1,12 +1,9 @@
 // A frame that came in: an acknowledgement for it becomes due, its own finishes a message, and its SDU goes up unless it is a repeat.
-ghost use Rattle.std.specs.Prelude.{ℕ, ◌≤◌, ◌≡◌, true, cond, List, [], length};
-ghost use Rattle.lists.specs.Writes.{Wrote};
+ghost use Rattle.std.specs.Prelude.{ℕ, ◌≤◌, ◌≡◌, true, List, length};
 ghost use Rattle.questions.specs.Outcome.{accepted};
 ghost use Rattle.bits.specs.Parts.{bits_of};
 ghost use Rattle.llc_pdus.specs.Received.{received};
 ghost use Rattle.llc_rule.specs.Limits.{longest_frame, output_bytes};
-ghost use Rattle.llc_rule.specs.Records.{all_bytes};
-ghost use Rattle.llc_rule.specs.Upward.{upward};
 ghost use Rattle.llc_calls.specs.Decoded.{frame_of};
 ghost use Rattle.llc_calls.specs.Ranges.{frame_range};
 ghost use Rattle.llc_state.specs.Ranges.{state_in_range};
@@ -21,20 +18,6 @@ use llc_pdus::{Pdu, from_bitbuf, sdu_bytes};
 use llc_received::put_upward;
 use llc_state::State;
 use questions::Refusal;
-
-// Writes what goes up of a frame; of a repeat nothing does.
-#[tactic(auto, unfolding(lists::specs::Writes::write, llc_rule::specs::Records::all_bytes))]
-fn put_unless_repeat(out: &mut [u8], repeat: bool, f: &FrameCall, pdu: Pdu, sdu: Part) -> usize
-    requires output_bytes_in_bounds { output_bytes ≤ length out.old }
-    requires f_value { frame_range f.now ≡ true }
-    requires sdu_short { sdu.len ≤ longest_frame }
-    ensures { Wrote out.old 0 (all_bytes (cond repeat [] (upward (frame_of f.now) pdu (bits_of sdu.entry)))) out.new result }
-{
-    if repeat {
-        return 0;
-    }
-    put_upward(out, 0, f, pdu, sdu)
-}
 
 // A frame that was read, with its SDU. All questions come before the first change.
 fn rx_tma_unitdata_ind_bl(
@@ -51,12 +34,15 @@ fn rx_tma_unitdata_ind_bl(
     requires started_value { state.old.started ≡ true }
     ensures { WithAnyStore (answered state.new result) out.new state.old out.old (λ (store : List ℕ). on_received (frame_of f.now) (accepted (record { header = pdu; sdu = bits_of sdu.entry })) state.old store) }
 {
-    let row = seq_row(state, f, pdu)?;
-    let place = ack_place(state, f, pdu)?;
-    let repeat = is_repeat(state, f, pdu, row);
-    let len = put_unless_repeat(out, repeat, f, pdu, sdu);
-    acknowledge(state, f, pdu, row);
-    process_incoming_ack(state, pdu, place);
+    let heard = seq_row(state, f, pdu.ns())?;
+    let ack = ack_place(state, f, pdu.nr())?;
+    let len = if is_repeat(state, f, heard) {
+        0
+    } else {
+        put_upward(out, 0, f, pdu, sdu)
+    };
+    acknowledge(state, f, heard);
+    process_incoming_ack(state, ack);
     Ok(len)
 }
 

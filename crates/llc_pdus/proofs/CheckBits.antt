@@ -9,12 +9,13 @@ use borrow.Author.Tests.{le-leb, leb-true, eqb-true, eq-eqb}
 use lib.Dec.{leb, eqb}
 use lib.ListN.{length, take, drop, length-append, length-drop, take-append-drop}
 use lib.Seq.{take_all, take_at, drop_at}
-use Rattle.bits.specs.Bits.{AllBits, to_bits, value, part, splice}
-use Rattle.bits.proofs.Laws.{to_bits-value, all_drop}
+use Rattle.std.proofs.lemmas.Bool.{and_parts}
+use Rattle.bits.specs.Bits.{AllBits, value, part, splice}
+use Rattle.bits.proofs.Laws.{all_drop, value-determines}
 use Rattle.fcs.specs.Fcs.{fcs_bits, fcs}
 use Rattle.fcs.proofs.Laws.{length-fcs, all-fcs}
 use Rattle.questions.specs.Outcome.{Outcome, accepted, refused, ask}
-use Rattle.questions.proofs.Asked.{content, accepted-passed, both}
+use Rattle.questions.proofs.Asked.{content, accepted-passed}
 use Rattle.llc_pdus.specs.Headers.{header, Reading, reading, has_fcs}
 use Rattle.llc_pdus.specs.Frames.{check_sequence, frame_bits}
 use Rattle.llc_pdus.specs.Received.{Received, checks, sdu_before, checked, received}
@@ -68,10 +69,6 @@ pub reply-received : (nr : Bool) → received (header (BlAck false nr)) ≡ acce
 unfolding frame_bits
 reply-received nr = frame-received (BlAck false nr) []
 
--- Two lists of as many bits that spell the same number are the same.
-same_bits : (l m : List ℕ) → AllBits l → AllBits m → length l ≡ length m → value l ≡ value m → l ≡ m
-same_bits l m h k e v = sym (to_bits-value l h) ∙ ap₂ to_bits e v ∙ to_bits-value m k
-
 -- What stands behind the header is the SDU with its check bits.
 sdu-with-check : (p : Pdu) (l : List ℕ) → AllBits l → not (has_fcs p) || checks l ≡ true → l ≡ sdu_before p l ++ check_sequence p (sdu_before p l)
 unfolding checks
@@ -84,10 +81,10 @@ sdu-with-check p l h q = go (has_fcs p) q
     go false e = sym (append-nil (take (length l - 0) l) ∙ take_all (length l - 0) l (omega arith))
     go true e =
         let m : ℕ = length l - fcs_bits in
-        let t = both (leb fcs_bits (length l)) (eqb (value (fcs (take m l))) (value (drop m l))) e in
+        let t = and_parts (leb fcs_bits (length l)) (eqb (value (fcs (take m l))) (value (drop m l))) e in
         let long : fcs_bits ≤ length l = leb-true fcs_bits (length l) t.0 in
         let same : fcs (take m l) ≡ drop m l =
-        same_bits (fcs (take m l)) (drop m l) (all-fcs (take m l)) (all_drop m l h)
+        value-determines (fcs (take m l)) (drop m l) (all-fcs (take m l)) (all_drop m l h)
         (omega (arith, length-fcs (take m l), length-drop m l))
         (eqb-true (value (fcs (take m l))) (value (drop m l)) t.1) in
         sym (ap (λ (x : List ℕ). take m l ++ x) same ∙ take-append-drop m l)

@@ -1,13 +1,12 @@
--- A frame put together: what a header is as a number, how long a frame is, and what the questions 5 and 8 say.
-use Prim.Native.Nat.{ℕ, ◌+◌, ◌-◌, ◌*◌, ◌^◌, ◌≤◌, ◌<◌, min}
+-- A frame put together: how long it is, and what the questions 5 and 8 say.
+use Prim.Native.Nat.{ℕ, ◌+◌, ◌-◌, ◌^◌, ◌≤◌, ◌<◌, min}
 use native.Mathlib.Omega.{arith}
 use mathlib.Core.Path.{◌≡◌, ◌∙◌, refl, ap, ap₂}
-use mathlib.Core.Bool.{Bool, true, false, cond, and-false}
+use mathlib.Core.Bool.{Bool, true, false, cond}
 use mathlib.Core.List.{List, [], ◌++◌, append_assoc}
 use borrow.Author.Tests.{le-leb, lt-leb}
-use lib.Dec.{leb}
 use lib.ListN.{length, length-append}
-use Rattle.bits.specs.Bits.{value, part, splice, AllBits}
+use Rattle.bits.specs.Bits.{part, splice, AllBits}
 use Rattle.bits.proofs.Laws.{length_part, splice-splice, all_append}
 use Rattle.fcs.specs.Fcs.{fcs_bits, fcs}
 use Rattle.fcs.proofs.Laws.{length-fcs, all-fcs}
@@ -18,25 +17,9 @@ use Rattle.llc_pdus.specs.Frames.{check_bits, check_sequence, frame_bits}
 use Rattle.llc_pdus.specs.Writes.{longest, longest_of, longest_sent, frame, written}
 use Rattle.llc_pdus.specs.declared.Pdu.{Pdu}
 use Rattle.llc_pdus.specs.declared.Pdu.TheVariants.{BlAdata, BlData, BlUdata, BlAck}
+use Rattle.llc_pdus.proofs.Laws.{header-short}
 
--- The headers as numbers.
-pub value-adata : (f r s : Bool) → value (header (BlAdata f r s)) ≡ bit f * 16 + bit r * 2 + bit s
-unfolding value
-value-adata f r s = omega arith
-
-pub value-data : (f s : Bool) → value (header (BlData f s)) ≡ bit f * 8 + 2 + bit s
-unfolding value
-value-data f s = omega arith
-
-pub value-udata : (f : Bool) → value (header (BlUdata f)) ≡ bit f * 4 + 2
-unfolding value
-value-udata f = omega arith
-
-pub value-ack : (f r : Bool) → value (header (BlAck f r)) ≡ bit f * 8 + 6 + bit r
-unfolding value
-value-ack f r = omega arith
-
--- A header is a list of bits, and has at most six.
+-- A header is a list of bits.
 bit_below : (b : Bool) → bit b < 2
 bit_below true = omega arith
 bit_below false = omega arith
@@ -47,12 +30,6 @@ all-header (BlAdata f r s) =
 all-header (BlData f s) = (omega arith, (bit_below f, (omega arith, (omega arith, (bit_below s, tt)))))
 all-header (BlUdata f) = (omega arith, (bit_below f, (omega arith, (omega arith, tt))))
 all-header (BlAck f r) = (omega arith, (bit_below f, (omega arith, (omega arith, (bit_below r, tt)))))
-
-pub header-small : (p : Pdu) → length (header p) ≤ 6
-header-small (BlAdata f r s) = omega arith
-header-small (BlData f s) = omega arith
-header-small (BlUdata f) = omega arith
-header-small (BlAck f r) = omega arith
 
 -- Check bits: how many, and that they are bits.
 pub check-few : (p : Pdu) → check_bits p ≤ fcs_bits
@@ -90,7 +67,7 @@ pub frame-most : (k : Kind) (p : Pdu) (sdu : List ℕ) → length (header p) ≤
 frame-most k p sdu h short = omega (arith, length-frame p sdu, check-few p)
 
 pub frame-short : (p : Pdu) (sdu : List ℕ) → length sdu ≤ longest → length (frame_bits p sdu) ≤ longest_sent
-frame-short p sdu short = frame-most adata p sdu (header-small p) short
+frame-short p sdu short = frame-most adata p sdu (header-short p) short
 
 pub all-frame : (p : Pdu) (sdu : List ℕ) → AllBits sdu → AllBits (frame_bits p sdu)
 unfolding frame_bits
@@ -104,13 +81,7 @@ length-frame-of p s from n there =
     length-frame p (part s from n) ∙ ap (λ (k : ℕ). length (header p) + k + check_bits p) (length_part s from n there)
 
 module _ (p : Pdu) (l s : List ℕ) (from n : ℕ) where
-  -- Question 5 fails by the length, or by the source; question 8 fails; none does.
-  pub too_long : longest < n → written p l s from n ≡ effect (refused 5) l
-  too_long h = rw (lt-leb n longest h)
-
-  pub no_source : min (length s) (2 ^ 64 - 1) < from + n → written p l s from n ≡ effect (refused 5) l
-  no_source h = rw (lt-leb (from + n) (min (length s) (2 ^ 64 - 1)) h, and-false (leb n longest))
-
+  -- Question 8 fails, and none does.
   pub no_room :
       n ≤ longest
       → from + n ≤ min (length s) (2 ^ 64 - 1)

@@ -3,12 +3,12 @@ use Prim.Native.Nat.{ℕ, zero, suc, ◌+◌, ◌-◌, ◌*◌, ◌/◌, ◌%◌
 use native.Mathlib.Omega.{arith}
 use mathlib.Core.Path.{◌≡◌, ◌∙◌, refl, sym, ap}
 use mathlib.Core.List.{List, []}
-use borrow.Author.Tests.{lt-ltb, le-ltb, le-leb, lt-leb, ne_eqb}
+use borrow.Author.Tests.{lt-ltb, le-ltb, le-leb, ne_eqb}
 use lib.ListN.{length, take, drop, length-take, length-drop}
 use lib.Seq.{drop-drop}
 use Rattle.bits.specs.Bits.{bits, part}
 use Rattle.bits.proofs.Laws.{length-bits, length_part, drop_bits, take-bits, part-take}
-use Rattle.questions.specs.Outcome.{Outcome, accepted, refused}
+use Rattle.questions.specs.Outcome.{Outcome, accepted}
 use Rattle.llc_pdus.specs.Sdus.{sdu_at, holding, handed}
 use Rattle.llc_pdus.specs.declared.Sdu.{Sdu}
 
@@ -16,11 +16,8 @@ use Rattle.llc_pdus.specs.declared.Sdu.{Sdu}
 abbrev pub behind : ℕ → ℕ → ℕ
 behind first n = first / 8 + n / 8 + (first % 8 + n % 8 + 7) / 8
 
--- What is handed back of an SDU that does not lie in the frame, of an empty one, and of one with bits.
+-- What is handed back of an SDU that lies in the frame: of an empty one, and of one with bits.
 module _ (f : List ℕ) (s : Sdu) where
-  pub outside : length f < behind s.first s.len → refused 5 ≡ handed f s
-  outside h = rw (lt-leb (s.first + s.len) (8 * length f) (omega arith))
-
   inside_is : behind s.first s.len ≤ length f → handed f s ≡ accepted (holding f s.first s.len)
   inside_is h = rw (le-leb (s.first + s.len) (8 * length f) (omega arith))
 

@@ -1,23 +1,23 @@
 -- A frame taken apart: what is known of its parts, and question 12 put to the bytes from the header's last byte onwards.
-use Prim.Native.Nat.{ℕ, zero, suc, ◌+◌, ◌-◌, ◌*◌, ◌≤◌}
-use native.Mathlib.Nat.{zero-add, suc-add}
+use Prim.Native.Nat.{ℕ, ◌+◌, ◌-◌, ◌*◌, ◌≤◌}
 use native.Mathlib.Omega.{arith}
 use mathlib.Core.Path.{◌≡◌, ◌∙◌, refl, sym, ap, subst}
 use mathlib.Core.Bool.{Bool, true, false, not, ◌&&◌, ◌||◌, or-true}
-use mathlib.Core.List.{List, [], ◌∷◌}
+use mathlib.Core.List.{List}
 use borrow.Author.Tests.{leb-true, le-leb}
 use lib.Dec.{leb, eqb}
 use lib.ListN.{length, take, drop, length-drop}
-use lib.Seq.{length-take-le, take_all, take-take, take-nil, drop-drop}
+use lib.Seq.{length-take-le, take_all, take-take, drop-drop}
+use Rattle.std.proofs.lemmas.List.{drop-take}
 use Rattle.bits.specs.Bits.{AllBits, bits, value, part}
 use Rattle.bits.proofs.Laws.{length-bits, length_part, part-take, drop_bits, all_take, all_drop}
 use Rattle.fcs.specs.Answers as Fcs
-use Rattle.fcs.specs.Fcs.{fcs_bits, fcs}
+use Rattle.fcs.specs.Fcs.{fcs}
 use Rattle.std.specs.Prelude.{Result, Ok, Err}
 use Rattle.questions.specs.Refusals.{number_of}
 use Rattle.questions.specs.declared.Refusal.{Refusal}
 use Rattle.questions.specs.Outcome.{Outcome, accepted, refused, ask, number}
-use Rattle.questions.proofs.Asked.{content, accepted-passed, by-question, both}
+use Rattle.questions.proofs.Asked.{content, accepted-passed, by-question}
 use Rattle.llc_pdus.specs.Answers.{Frame, pdu_in, head_from, answered, sdu_of, framed, read_from}
 use Rattle.llc_pdus.specs.Headers.{header, Reading, reading, reading_of, has_fcs, length_of, kind_at, one}
 use Rattle.llc_pdus.specs.Frames.{check_bits}
@@ -150,16 +150,7 @@ read_as r l n h e =
     go (Err r) (accepted x) q t = let z : ◌≡◌ {A = ℕ} 0 1 = cc in absurd (omega arith)
     go (Err r) (refused i) q t = record { same = ap refused (ap number t) ∙ sym q; inside = tt }
 
--- The bytes from a place on, as they are lent.
-pub lent : (b : List ℕ) (at : ℕ) → take (length b - at) (drop at b) ≡ drop at b
-lent b at = take_all (length b - at) (drop at b) (omega (arith, length-drop at b))
-
 -- The last bits of n bits of others.
-drop-take : (m n : ℕ) (l : List ℕ) → drop m (take (m + n) l) ≡ take n (drop m l)
-drop-take zero n l = rw (zero-add n)
-drop-take (suc m) n [] = rw (take-nil {A = ℕ} (suc m + n)) (sym (take-nil n))
-drop-take (suc m) n (x ∷ l) = rw (suc-add m n) (drop-take m n l)
-
 last-part : (l : List ℕ) (at m n : ℕ) → part l (at + m) n ≡ drop m (part l at (m + n))
 last-part l at m n = ap (take n) (sym (drop-drop m at l)) ∙ sym (drop-take m n (drop at l))
 
@@ -267,17 +258,7 @@ refused-twelve : (k : ℕ) (b : Bool) → ◌≡◌ {A = Outcome (Unit {0})} (re
 refused-twelve k false e = (refl, ap number e)
 refused-twelve k true e = let z : ◌≡◌ {A = ℕ} 0 1 = cc in absurd (omega arith)
 
-checks-long : (l : List ℕ) → checks l ≡ true → fcs_bits ≤ length l
-unfolding checks
-checks-long l h =
-    leb-true fcs_bits (length l)
-    (both (leb fcs_bits (length l)) (eqb (value (fcs (take (length l - fcs_bits) l))) (value (drop (length l - fcs_bits) l))) h).0
-
 module _ {f : List ℕ} {n : ℕ} {p : Pdu} (a : Apart f n p) where
-  -- The byte that the header ends in is in the frame.
-  pub ends-inside : (header_end p).byte ≤ length f
-  ends-inside = omega (arith, a.fits, length-bits f, a.whole, header-ends p)
-
   read_is : {o : Outcome Received} → received (take n (bits f)) ≡ o → framed n o ≡ read_from (bits f) n
   read_is e = sym (rw (le-leb n (length (bits f)) a.fits) (ap (framed n) e))
 
@@ -288,13 +269,6 @@ module _ {f : List ℕ} {n : ℕ} {p : Pdu} (a : Apart f n p) where
   right e =
       let yes = (accepted-passed 12 (checks (behind p (take n (bits f)))) (e ∙ a.check)).0 in
       read_is {o = accepted (parts_of p (take n (bits f)))} (a.asks ∙ rw (yes, or-true (not (has_fcs p))))
-
-  -- Then the check bits are there.
-  pub long : accepted tt ≡ check_behind f p (n - length (header p)) → fcs_bits ≤ n - length (header p)
-  long e =
-      let b = (accepted-passed 12 (checks (behind p (take n (bits f)))) (e ∙ a.check)).0 in
-      omega
-      (arith, checks-long (behind p (take n (bits f))) b, length-drop (length (header p)) (take n (bits f)), length-take-le n (bits f) a.fits)
 
   pub wrong : (k : ℕ) → has_fcs p ≡ true → refused k ≡ check_behind f p (n - length (header p)) → refused k ≡ read_from (bits f) n
   wrong k h e =

@@ -8,15 +8,11 @@ use Rattle.bits.proofs.Laws.{splice-none, to_bits-value}
 use Rattle.fcs.specs.Fcs.{fcs_bits, fcs}
 use Rattle.fcs.proofs.Laws.{length-fcs, all-fcs}
 use Rattle.llc_pdus.specs.Headers.{has_fcs}
-use Rattle.llc_pdus.specs.Frames.{check_bits, check_sequence}
+use Rattle.llc_pdus.specs.Frames.{check_sequence}
 use Rattle.llc_pdus.specs.declared.Pdu.{Pdu}
 
 module _ (p : Pdu) where
-  -- With the flag there are check bits.
-  pub announced : has_fcs p ≡ true → check_bits p ≡ fcs_bits
-  announced e = ap (λ (b : Bool). cond b fcs_bits 0) e
-
-  -- Without it nothing is put; with it the sum is put.
+  -- Without the flag nothing is put; with it the sum is put.
   pub none-put : (l : List ℕ) (at : ℕ) (sdu : List ℕ) → has_fcs p ≡ false → l ≡ splice l at (check_sequence p sdu)
   none-put l at sdu e = sym (ap (λ (b : Bool). splice l at (cond b (fcs sdu) [])) e ∙ splice-none l at)
 

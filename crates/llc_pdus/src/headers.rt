@@ -40,21 +40,22 @@ impl Pdu {
     }
 
     // The PDU that a first byte begins.
+    #[tactic(auto, unfolding(bits::specs::Bits::to_bits))]
     fn first_byte(b: u8) -> Pdu
         ensures { result ≡ (reading_of (to_bits 8 b)).pdu }
     {
         let has_fcs = b / 64 % 2 == 1;
         let x = b / 8 % 2 == 1;
         let y = b / 4 % 2 == 1;
-        match b / 16 % 4 {
-            0 => Pdu::BlAdata {
+        match (b / 32 % 2 == 1, b / 16 % 2 == 1) {
+            (false, false) => Pdu::BlAdata {
                 has_fcs,
                 nr: x,
                 ns: y,
             },
-            1 => Pdu::BlData { has_fcs, ns: x },
-            2 => Pdu::BlUdata { has_fcs },
-            _ => Pdu::BlAck { has_fcs, nr: x },
+            (false, true) => Pdu::BlData { has_fcs, ns: x },
+            (true, false) => Pdu::BlUdata { has_fcs },
+            (true, true) => Pdu::BlAck { has_fcs, nr: x },
         }
     }
 

@@ -8,22 +8,22 @@ use questions::Refusal;
 /// The type of an LLC PDU, four bits.
 #[derive(Clone, Copy, Debug, PartialEq, Eq)]
 pub enum LlcPduType {
-    BlAdata,
-    BlData,
-    BlUdata,
-    BlAck,
-    BlAdataFcs,
-    BlDataFcs,
-    BlUdataFcs,
-    BlAckFcs,
-    AlSetup,
-    AlDataAlFinal,
-    AlAlUdataAlUfinal,
-    AlAckAlRnr,
-    AlReconnect,
-    SuppLlcPdu,
-    L2SigPdu,
-    AlDisc,
+    BlAdata = 0,
+    BlData = 1,
+    BlUdata = 2,
+    BlAck = 3,
+    BlAdataFcs = 4,
+    BlDataFcs = 5,
+    BlUdataFcs = 6,
+    BlAckFcs = 7,
+    AlSetup = 8,
+    AlDataAlFinal = 9,
+    AlAlUdataAlUfinal = 10,
+    AlAckAlRnr = 11,
+    AlReconnect = 12,
+    SuppLlcPdu = 13,
+    L2SigPdu = 14,
+    AlDisc = 15,
 }
 
 // The type with a number, or question 5: it is below 16.
@@ -60,23 +60,6 @@ impl From<LlcPduType> for u64 {
     ghost from_gives = { λ t x. x ≡ raw t };
 
     fn from(t: LlcPduType) -> u64 {
-        match t {
-            LlcPduType::BlAdata => 0,
-            LlcPduType::BlData => 1,
-            LlcPduType::BlUdata => 2,
-            LlcPduType::BlAck => 3,
-            LlcPduType::BlAdataFcs => 4,
-            LlcPduType::BlDataFcs => 5,
-            LlcPduType::BlUdataFcs => 6,
-            LlcPduType::BlAckFcs => 7,
-            LlcPduType::AlSetup => 8,
-            LlcPduType::AlDataAlFinal => 9,
-            LlcPduType::AlAlUdataAlUfinal => 10,
-            LlcPduType::AlAckAlRnr => 11,
-            LlcPduType::AlReconnect => 12,
-            LlcPduType::SuppLlcPdu => 13,
-            LlcPduType::L2SigPdu => 14,
-            LlcPduType::AlDisc => 15,
-        }
+        t as u64
     }
 }

@@ -1,11 +1,11 @@
 // A frame put together: the header, the SDU behind it, and its check sequence.
-ghost use Rattle.std.specs.Prelude.{◌+◌, ◌≤◌, ◌<◌, ◌≡◌, length};
+ghost use Rattle.std.specs.Prelude.{◌+◌, ◌≤◌, ◌≡◌, length};
 ghost use Rattle.bits.specs.Bits.{to_bits, value, bits, splice};
 ghost use Rattle.bits.specs.Parts.{bits_of};
 ghost use Rattle.fcs.specs.Fcs.{fcs_bits};
 ghost use Rattle.questions.specs.Effect.{effect};
 ghost use Rattle.questions.specs.Refusals.{outcome};
-ghost use Rattle.llc_pdus.specs.Headers.{bit as bit_of, header};
+ghost use Rattle.llc_pdus.specs.Headers.{header};
 ghost use Rattle.llc_pdus.specs.Frames.{check_bits, check_sequence, frame_bits};
 ghost use Rattle.llc_pdus.specs.Writes.{longest, written};
 
@@ -80,14 +80,17 @@ impl Pdu {
     }
 
     // The header, as a number.
+    #[tactic(auto, unfolding(bits::specs::Bits::value))]
     fn header_value(self) -> u64
         ensures { result ≡ value (header self) }
     {
         match self {
-            Pdu::BlAdata { has_fcs, nr, ns } => bit(has_fcs) * 16 + bit(nr) * 2 + bit(ns),
-            Pdu::BlData { has_fcs, ns } => bit(has_fcs) * 8 + 2 + bit(ns),
-            Pdu::BlUdata { has_fcs } => bit(has_fcs) * 4 + 2,
-            Pdu::BlAck { has_fcs, nr } => bit(has_fcs) * 8 + 6 + bit(nr),
+            Pdu::BlAdata { has_fcs, nr, ns } => u64::from(has_fcs) * 16
+                + u64::from(nr) * 2
+                + u64::from(ns),
+            Pdu::BlData { has_fcs, ns } => u64::from(has_fcs) * 8 + 2 + u64::from(ns),
+            Pdu::BlUdata { has_fcs } => u64::from(has_fcs) * 4 + 2,
+            Pdu::BlAck { has_fcs, nr } => u64::from(has_fcs) * 8 + 6 + u64::from(nr),
         }
     }
 }
@@ -127,12 +130,4 @@ fn put_sum(sum: u32, at: usize, out: &mut [u8])
         flag_autoexpand: false,
     };
     let _ = last.write_bits(out, sum as u64, FCS_BITS);
-}
-
-// A flag, or a number of one bit.
-fn bit(b: bool) -> u64
-    ensures value { result ≡ bit_of b }
-    ensures upper_bound { result < 2 }
-{
-    if b { 1 } else { 0 }
 }

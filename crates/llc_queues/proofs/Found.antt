@@ -2,13 +2,15 @@
 use Prim.Native.Nat.{ℕ, ◌<◌, ◌≤◌}
 use mathlib.Core.Path.{◌≡◌, ◌∙◌, sym, ap}
 use mathlib.Core.Bool.{Bool, true, false, ◌||◌}
+use mathlib.Core.List.{◌++◌}
+use borrow.Author.Clash.{clash}
 use borrow.Author.Tests.{lt-ltb, le-ltb}
 use lib.ListN.{length}
 use Rattle.std.specs.Prelude as Prelude
 use Rattle.std.specs.Prelude.{Some, None}
 use Rattle.std.specs.List.{list_any}
 use Rattle.lists.specs.Arrays.{position}
-use Rattle.lists.proofs.Choices.{clash}
+use Rattle.lists.proofs.Lists.{any_append}
 use Rattle.lists.proofs.Std.{any-list, position-some, position-none}
 use Rattle.questions.specs.Outcome.{accepted, refused, ask}
 use Rattle.llc_state.specs.declared.State.{State}
@@ -19,15 +21,15 @@ use Rattle.llc_queues.specs.Queues.{with_receipt, waits_with}
 -- Either of two tests, where the first passes, and where it fails.
 pub or-then : (x y : Bool) {a v : Bool} → x || y ≡ v → a ≡ x → a ≡ true → a ≡ v
 or-then true y e h t = h ∙ e
-or-then false y e h t = clash t h
+or-then false y e h t = clash _ t h
 
 pub or-else : (x y : Bool) {a b v : Bool} → x || y ≡ v → a ≡ x → a ≡ false → b ≡ y → b ≡ v
-or-else true y e h f k = clash h f
+or-else true y e h f k = clash _ h f
 or-else false y e h f k = k ∙ e
 
-pub held-by : (i : ℕ) (s : State) → list_any (with_receipt i) (messages_of s) || list_any (with_receipt i) (udata_of s) ≡ held i s
+pub held-by : (i : ℕ) (s : State) → list_any (with_receipt i) (messages_of s ++ udata_of s) ≡ held i s
 unfolding held
-held-by i s = rw (any-list (with_receipt i) (messages_of s), any-list (with_receipt i) (udata_of s))
+held-by i s = any-list (with_receipt i) (messages_of s ++ udata_of s) ∙ any_append (with_receipt i) (messages_of s) (udata_of s)
 
 pub waits-by : (i : ℕ) (s : State) → list_any (waits_with i) (messages_of s) || list_any (with_receipt i) (udata_of s) ≡ waits i s
 unfolding waits

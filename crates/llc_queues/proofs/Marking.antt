@@ -8,7 +8,7 @@ use mathlib.Core.List.{List, [], ◌∷◌, ◌++◌, map-append}
 use borrow.Author.Tests.{eqb-true, eqb-false, eq-eqb, ne_eqb}
 use lib.Dec.{eqb}
 use lib.ListN.{length, get_or, take, set, replicate, get_or-replicate}
-use lib.Seq.{take-suc, take_all}
+use lib.Seq.{take-suc}
 use Rattle.std.specs.Prelude.{unwrap_or}
 use Rattle.std.specs.Prelude as Prelude
 use Rattle.lists.specs.Lists.{any, among}
@@ -73,14 +73,6 @@ module _ (old used : List Bool) (es : List Entry) (i : ℕ) (d : Entry) (h : i <
       rw (is, one, places-more es i d h, among-more q x us, ne_eqb x q (λ e. omega (arith, e, beyond, below)), or-false (among q us))
       (m q below)
 
--- After the last one.
-pub marks-all :
-    (old used : List Bool) (es : List Entry) (i : ℕ)
-    → length es ≤ i
-    → Marks old (places_of (take i es)) used
-    → Marks old (places_of es) used
-marks-all old used es i h m = rw (take_all i es h) at m
-
 -- What the flags behind the first one say.
 later :
     (bs : List Bool) (p : ℕ) (us : List ℕ) (b : Bool)
@@ -111,28 +103,28 @@ first-unset (false ∷ bs) p us h =
 
 -- The first flag that is not set, of those that the messages of both queues set, is that of the first free place.
 pub first-free :
-    (s : State) (one two : List Bool)
-    → length two ≡ store_places
-    → Marks (replicate store_places false) (places_of (messages_of s)) one
-    → Marks one (places_of (udata_of s)) two
-    → unwrap_or (Prelude.position not two) 0 ≡ free_place s
+    (s : State) (used : List Bool)
+    → length used ≡ store_places
+    → Marks (replicate store_places false) (places_of (messages_of s ++ udata_of s)) used
+    → unwrap_or (Prelude.position not used) 0 ≡ free_place s
 unfolding free_place used_places
-first-free s one two long m n =
+first-free s used long m =
     let us = places_of (messages_of s) in
     let vs = places_of (udata_of s) in
-    let marked : (q : ℕ) → q < length two → get_or two q false ≡ among (0 + q) (us ++ vs) =
+    let joined : places_of (messages_of s ++ udata_of s) ≡ us ++ vs = rw map-append in
+    let marked : (q : ℕ) → q < length used → get_or used q false ≡ among (0 + q) (us ++ vs) =
     λ q below.
     let h : q < store_places = omega (arith, below, long) in
-    n q h
-    ∙ ap (λ (b : Bool). b || among q vs) (m q h ∙ ap (λ (b : Bool). b || among q us) (get_or-replicate store_places q false false h))
-    ∙ sym (among-append q us vs)
+    m q h
+    ∙ ap (λ (b : Bool). b || among q (places_of (messages_of s ++ udata_of s))) (get_or-replicate store_places q false false h)
+    ∙ ap (λ (ws : List ℕ). among q ws) joined
     ∙ ap (λ (k : ℕ). among k (us ++ vs)) (sym (zero-add q)) in
-    ap (λ (o : Prelude.Option ℕ). unwrap_or o 0) (position-choice not two)
-    ∙ chosen (any not two) (position not two)
+    ap (λ (o : Prelude.Option ℕ). unwrap_or o 0) (position-choice not used)
+    ∙ chosen (any not used) (position not used)
     ∙ sym
     (ap (λ (k : ℕ). first_free k 0 (us ++ vs)) (sym long)
-    ∙ first-unset two 0 (us ++ vs) marked
-    ∙ ap (λ (k : ℕ). cond (any not two) k 0) (zero-add (position not two)))
+    ∙ first-unset used 0 (us ++ vs) marked
+    ∙ ap (λ (k : ℕ). cond (any not used) k 0) (zero-add (position not used)))
   where
     chosen : (b : Bool) (k : ℕ) → unwrap_or (cond b (Prelude.Some k) Prelude.None) 0 ≡ cond b k 0
     chosen true k = refl

@@ -2,18 +2,22 @@
 use Prim.Native.Nat.{ℕ, suc, ◌+◌, ◌-◌, ◌≤◌, ◌<◌}
 use native.Mathlib.Omega.{arith}
 use mathlib.Core.Path.{◌≡◌, sym, ◌∙◌, ap, ap₂}
-use mathlib.Core.List.{List, [], ◌∷◌, ◌++◌, append_assoc, append-nil}
+use mathlib.Core.List.{List, ◌∷◌, ◌++◌, append_assoc, append-nil}
 use borrow.Rule.Slice.PartMut.{mid_of, put_mid, Post-is}
 use lib.ListN.{length, take, drop, get_or, set, replicate, take-append-drop, drop_of_length-le, length-append, length-take, length-drop}
 use lib.Seq.{length-take-le, drop-cons, append_snoc, get_or-take, set_at, take-take, take_all, drop-append-le}
 use Rattle.std.proofs.lemmas.Slice.{between_is}
+use Rattle.std.proofs.lemmas.List.{drop-take}
 use Rattle.lists.specs.Arrays.{laid, without, fronted}
 use Rattle.lists.proofs.Arrays.{laid-fewer, laid_more, length_without}
+use Rattle.llc_state.specs.declared.State.{State}
+use Rattle.llc_state.specs.States.{no_entry}
+use Rattle.llc_steps.specs.States.{messages_of, put_messages, with_messages}
 
 module _ {A : Type 0} where
   module _ (n i : ℕ) (l : List A) (h : i < n) (k : n ≤ length l) where
     -- The first n without the one of a place are one fewer.
-    pub length-out : n - 1 ≡ length (without i (take n l))
+    length-out : n - 1 ≡ length (without i (take n l))
     length-out =
         let e = length-take-le n l k in
         omega (arith, length_without i (take n l) (omega (arith, e)), e)
@@ -46,53 +50,55 @@ module _ {A : Type 0} where
         (laid-fewer e n (without i (take n l)) l (omega (arith, length-out))
         ∙ ap₂ (λ (u : List A) (m : ℕ). u ++ (replicate m e ++ drop n l)) without-is one)
 
-    -- The one of a place moved in front of the others.
-    fronted-is : (d : A) → fronted i (take n l) ≡ get_or l i d ∷ (take i l ++ drop (suc i) (take n l))
-    fronted-is d = ap₂ (λ (p q : List A). take 1 p ++ q) (part-is d) without-is
-
-    pub length-fronted : n ≡ length (fronted i (take n l))
-    length-fronted =
-        let u = take n l in
-        omega
-        (arith, length-append (take 1 (drop i u)) (without i u), length-take 1 (drop i u), length-drop i u, length-take-le n l k, length-out)
-
-    behind-is : drop (suc i) (take n l) ++ drop n l ≡ drop (suc i) l
-    behind-is =
-        sym (drop-append-le (suc i) (take n l) (drop n l) (omega (arith, length-take-le n l k)))
-        ∙ ap (drop (suc i)) (take-append-drop n l)
-
-    pub moved-front :
-        (d e : A)
-        → (get_or l i d ∷ take i l) ++ drop (suc i) l ≡ laid e n (fronted i (take n l)) l
-    moved-front d e =
-        let x = get_or l i d in
-        sym
-        (laid_more e n (fronted i (take n l)) l (omega (arith, length-fronted))
-        ∙ ap₂ (λ (u : List A) (m : ℕ). u ++ drop m l) (fronted-is d) (sym (length-fronted))
-        ∙ ap (λ (t : List A). x ∷ t)
-        (append_assoc (take i l) (drop (suc i) (take n l)) (drop n l) ∙ ap (λ (t : List A). take i l ++ t) behind-is))
-
-  -- The last of the first elements, and those before it.
-  last-is : (i : ℕ) (l : List A) (d : A) → i < length l → drop i (take (suc i) l) ≡ get_or l i d ∷ []
-  last-is i l d h =
-      part-is (suc i) i l (omega arith) (omega arith) d
-      ∙ ap (λ (t : List A). get_or l i d ∷ t)
-      (drop_of_length-le (take (suc i) l) {i = suc i} (omega (arith, length-take-le (suc i) l (omega arith))))
-
+  -- The one of a place moved in front of the others: the first ones turned by one.
   pub turned :
-      (n i : ℕ) (l : List A) (e : A)
+      (i : ℕ) (l : List A)
+      → i < length l
+      → (drop (length (take (i + 1) l) - 1) (take (i + 1) l) ++ take (length (take (i + 1) l) - 1) (take (i + 1) l)) ++ drop (i + 1) l
+      ≡ fronted i l
+  turned i l h =
+      let last : length (take (i + 1) l) - 1 ≡ i = omega (arith, length-take-le (i + 1) l (omega arith)) in
+      let next : i + 1 ≡ suc i = omega arith in
+      rw (last, drop-take i 1 l, next, take-take i (suc i) l (omega arith))
+      (append_assoc (take 1 (drop i l)) (take i l) (drop (suc i) l))
+
+  length-fronted : (i : ℕ) (l : List A) → i < length l → length (fronted i l) ≡ length l
+  length-fronted i l h =
+      omega
+      (arith, length-append (take 1 (drop i l)) (without i l), length-take 1 (drop i l), length-drop i l, length_without i l h)
+
+  -- The first n so moved are those of all so moved.
+  fronted-first :
+      (n i : ℕ) (l : List A)
       → i < n
       → n ≤ length l
-      → (drop (length (take (i + 1) l) - 1) (take (i + 1) l) ++ take (length (take (i + 1) l) - 1) (take (i + 1) l)) ++ drop (i + 1) l
-      ≡ laid e n (fronted i (take n l)) l
-  turned n i l e h k =
-      let next : i + 1 ≡ suc i = omega arith in
-      let last : length (take (suc i) l) - 1 ≡ i = omega (arith, length-take-le (suc i) l (omega arith)) in
-      rw (next, last)
-      (ap₂ (λ (p q : List A). (p ++ q) ++ drop (suc i) l)
-      (last-is i l e (omega arith))
-      (take-take i (suc i) l (omega arith))
-      ∙ moved-front n i l h k e e)
+      → fronted i (take n l) ++ drop n l ≡ fronted i l
+  fronted-first n i l h k =
+      let u = take n l in
+      let here : take 1 (drop i u) ≡ take 1 (drop i l) =
+      sym (drop-take i 1 u) ∙ ap (drop i) (take-take (i + 1) n l (omega arith)) ∙ drop-take i 1 l in
+      let behind : drop (suc i) u ++ drop n l ≡ drop (suc i) l =
+      sym (drop-append-le (suc i) u (drop n l) (omega (arith, length-take-le n l k))) ∙ ap (drop (suc i)) (take-append-drop n l) in
+      append_assoc (take 1 (drop i u)) (without i u) (drop n l)
+      ∙ ap₂ (λ (p q : List A). p ++ q) here
+      (append_assoc (take i u) (drop (suc i) u) (drop n l)
+      ∙ ap₂ (λ (p q : List A). p ++ q) (take-take i n l (omega arith)) behind)
+
+-- The message of a place moved in front of the others.
+pub fronts_message :
+    (s : State) (i : ℕ)
+    → i < s.n_messages
+    → s.n_messages ≤ length s.outbound_messages
+    → put_messages s s.n_messages (fronted i s.outbound_messages) ≡ with_messages s (fronted i (messages_of s))
+fronts_message s i h k =
+    let ms = fronted i (messages_of s) in
+    let e = length-take-le s.n_messages s.outbound_messages k in
+    let long : length ms ≡ s.n_messages = omega (arith, length-fronted i (messages_of s) (omega (arith, e)), e) in
+    sym
+    (ap₂ (put_messages s) long
+    (laid_more no_entry s.n_messages ms s.outbound_messages (omega (arith, long))
+    ∙ ap (λ (m : ℕ). ms ++ drop m s.outbound_messages) long
+    ∙ fronted-first s.n_messages i s.outbound_messages h k))
 
 -- Without the one of a place behind the first n they are as they were.
 pub none-out : {A : Type 0} (n i : ℕ) (l : List A) → length (take n l) ≤ i → without i (take n l) ≡ take n l

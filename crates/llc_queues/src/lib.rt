@@ -1,6 +1,7 @@
 // The queues and tables of the link's state, as tetra-entities' llc_bs_ms.rs searches and changes them.
 #![tactic(auto)]
 
+mod in_use;
 mod searches;
 mod updates;
 

@@ -4,7 +4,7 @@ ghost use Rattle.lists.specs.Arrays.{without, fronted, placed, laid};
 ghost use Rattle.llc_state.specs.States.{no_entry, no_ack};
 ghost use Rattle.llc_steps.specs.States.{messages_of, udata_of, acks_of, rows_of, with_messages, with_udata, with_acks, with_rows};
 
-use crate::searches::in_use;
+use crate::in_use::acks;
 use llc_state::{Entry, LinkSendSeq, ScheduledOutAck, State};
 
 // Puts an element behind the n in use.
@@ -32,12 +32,10 @@ fn take_out<T: Copy>(elements: &mut [T], n: &mut usize, i: usize, empty: T) -> T
     element
 }
 
-// Moves the element of a place in front of the others that are in use.
-fn move_to_front<T: Copy>(elements: &mut [T], n: usize, i: usize)
-    requires i_bound { i < n }
-    requires n_bound { n ≤ length elements.old }
-    ensures count { n ≡ length (fronted i (take n elements.old)) }
-    ensures after { (empty : T) → elements.new ≡ laid empty n (fronted i (take n elements.old)) elements.old }
+// Moves the element of a place in front of the others.
+fn move_to_front<T: Copy>(elements: &mut [T], i: usize)
+    requires { i < length elements.old }
+    ensures { elements.new ≡ fronted i elements.old }
 {
     elements[..=i].rotate_right(1);
 }
@@ -87,7 +85,7 @@ pub fn take_out_ack(state: &mut State, i: usize) -> Option<ScheduledOutAck>
     ensures ack { MatchOption result (state.old.n_acks ≤ i) (λ ack. (i < state.old.n_acks) × (ack ≡ get_or (acks_of state.old) i no_ack)) }
     ensures after { state.new ≡ with_acks state.old (without i (acks_of state.old)) }
 {
-    in_use(&state.scheduled_out_acks, state.n_acks).get(i)?;
+    acks(state).get(i)?;
     Some(take_out(
         &mut state.scheduled_out_acks,
         &mut state.n_acks,
@@ -112,10 +110,11 @@ pub fn take_expected_ack(state: &mut State, i: usize) -> Entry
 }
 
 /// Moves the message of a place to the front.
+#[tactic(auto, using(crate::proofs::Shifting::fronts_message))]
 pub fn push_front_expected_ack(state: &mut State, i: usize)
     requires i_bound { i < state.old.n_messages }
     requires n_messages_bound { state.old.n_messages ≤ 64 }
     ensures { state.new ≡ with_messages state.old (fronted i (messages_of state.old)) }
 {
-    move_to_front(&mut state.outbound_messages, state.n_messages, i);
+    move_to_front(&mut state.outbound_messages, i);
 }

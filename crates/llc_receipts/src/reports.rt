@@ -10,13 +10,16 @@ use questions::Refusal;
 use tx_receipt::{Mark, TxState};
 
 /// A report: 1 transmitted, 2 discarded.
+#[tactic(auto, using(llc_state::proofs::Counts::counts))]
 pub fn rx_tma_report_ind(state: &mut State, receipt: u8, how: u8) -> Result<(), Refusal>
     requires state_value { state_in_range state.old ≡ true }
     requires receipt_bound { receipt < 128 }
     ensures { WithAny (answered state.new (done result)) state.old (λ (store : List ℕ). on_report receipt how state.old store) }
 {
-    let i = receipt as usize;
-    let tx = state.receipts[i].receipt().ok_or(Refusal::NotPending)?;
+    let tx = state
+        .receipt_place(receipt)
+        .receipt()
+        .ok_or(Refusal::NotPending)?;
     if tx.get_state() != TxState::Pending || waits(state, receipt) {
         return Err(Refusal::NotPending);
     }
@@ -25,21 +28,24 @@ pub fn rx_tma_report_ind(state: &mut State, receipt: u8, how: u8) -> Result<(), 
     } else {
         Mark::Discarded
     };
-    state.mark_receipt(i, mark);
+    state.mark_receipt(receipt, mark);
     Ok(())
 }
 
 /// A release: a receipt that is final, and whose message is no longer held, is free again.
+#[tactic(auto, using(llc_state::proofs::Counts::counts))]
 pub fn release(state: &mut State, receipt: u8) -> Result<(), Refusal>
     requires state_value { state_in_range state.old ≡ true }
     requires receipt_bound { receipt < 128 }
     ensures { WithAny (answered state.new (done result)) state.old (λ (store : List ℕ). on_release receipt state.old store) }
 {
-    let i = receipt as usize;
-    let tx = state.receipts[i].receipt().ok_or(Refusal::NotFinal)?;
+    let tx = state
+        .receipt_place(receipt)
+        .receipt()
+        .ok_or(Refusal::NotFinal)?;
     if !tx.is_in_final_state() || holds(state, receipt) {
         return Err(Refusal::NotFinal);
     }
-    state.free_receipt(i);
+    state.free_receipt(receipt);
     Ok(())
 }

@@ -1,13 +1,13 @@
 -- What goes up of a frame, as the code writes it, and the room that it takes.
 use Prim.Native.Nat.{ℕ, ◌≤◌, ◌<◌}
 use native.Mathlib.Omega.{arith}
-use mathlib.Core.Path.{◌≡◌, ◌∙◌, refl, sym, ap}
+use mathlib.Core.Path.{◌≡◌, refl, sym}
 use mathlib.Core.Bool.{Bool, true, ◌&&◌}
 use mathlib.Core.List.{List, [], ◌∷◌, ◌++◌, append-nil}
 use borrow.Author.Tests.{leb-true}
 use lib.Dec.{leb}
 use lib.ListN.{length}
-use Rattle.lists.proofs.Choices.{both}
+use Rattle.std.proofs.lemmas.Bool.{and_parts}
 use Rattle.bits.specs.Parts.{bits_of}
 use Rattle.bits.specs.declared.parts.Part.{Part}
 use Rattle.llc_pdus.specs.declared.Pdu.{Pdu}
@@ -21,7 +21,7 @@ use Rattle.llc_rule.proofs.Records.{most_up, small-indication}
 use Rattle.llc_calls.specs.Decoded.{frame_of}
 use Rattle.llc_calls.specs.Ranges.{frame_range}
 use Rattle.llc_calls.specs.declared.FrameCall.{FrameCall}
-use Rattle.llc_calls.proofs.Laws.{bits-length}
+use Rattle.bits.proofs.PartLaws.{length-bits_of}
 use Rattle.llc_received.specs.Upward.{sent_up}
 
 -- What each PDU sends up.
@@ -49,14 +49,23 @@ unfolding upward all_bytes bytes
 ack-up f [] c nr h = absurd (omega (arith, h))
 ack-up f (b ∷ sdu) c nr h = alone f (b ∷ sdu) 4 0 c
 
--- The same of bits that are lent.
-pub ack-lent :
-    (f : Frame) (sdu : Part) {p : Pdu} {c nr : Bool}
-    → p ≡ BlAck c nr
-    → 0 < sdu.len
-    → indication_bytes 4 (sent_up f 0 c (bits_of sdu)) ≡ all_bytes (upward f p (bits_of sdu))
-ack-lent f sdu e some =
-    sym (ap (λ (p : Pdu). all_bytes (upward f p (bits_of sdu))) e ∙ ack-up f (bits_of sdu) _ _ (omega (arith, bits-length sdu, some)))
+-- The same of bits that are lent, by the kind, link id and FCS flag that the code chose.
+abbrev pub chosen : Frame → Part → ℕ × ℕ × Bool → List ℕ
+chosen f sdu k = indication_bytes k.0 (sent_up f k.1 k.2 (bits_of sdu))
+
+module _ (f : Frame) (sdu : Part) {p : Pdu} {k : ℕ × ℕ × Bool} where
+  pub adata-lent : {c nr ns : Bool} → p ≡ BlAdata c nr ns → k ≡ (4, f.link, c) → chosen f sdu k ≡ all_bytes (upward f p (bits_of sdu))
+  adata-lent {c} {nr} {ns} e is = rw (e, is) (sym (adata-up f (bits_of sdu) c nr ns))
+
+  pub data-lent : {c ns : Bool} → p ≡ BlData c ns → k ≡ (4, f.link, c) → chosen f sdu k ≡ all_bytes (upward f p (bits_of sdu))
+  data-lent {c} {ns} e is = rw (e, is) (sym (data-up f (bits_of sdu) c ns))
+
+  pub udata-lent : {c : Bool} → p ≡ BlUdata c → k ≡ (5, 0, c) → chosen f sdu k ≡ all_bytes (upward f p (bits_of sdu))
+  udata-lent {c} e is = rw (e, is) (sym (udata-up f (bits_of sdu) c))
+
+  pub ack-lent : {c nr : Bool} → p ≡ BlAck c nr → 0 < sdu.len → k ≡ (4, 0, c) → chosen f sdu k ≡ all_bytes (upward f p (bits_of sdu))
+  ack-lent {c} {nr} e some is =
+      rw (e, is) (sym (ack-up f (bits_of sdu) c nr (omega (arith, length-bits_of sdu, some))))
 
 none-up : (f : Frame) (sdu : List ℕ) (c nr : Bool) → length sdu ≡ 0 → all_bytes (upward f (BlAck c nr) sdu) ≡ []
 unfolding upward all_bytes
@@ -80,8 +89,8 @@ up-size f (BlAck c nr) (b ∷ sdu) hb hs =
 pub frame_small : (f : FrameCall) → frame_range f ≡ true → (length f.block.now ≤ 64) × (f.pdu.len ≤ longest_frame)
 unfolding frame_range
 frame_small f h =
-    let e = both {x = is_type f.ssi_type && leb (length f.block.now) 64} {y = leb f.pdu.len longest_frame} h in
-    (leb-true (length f.block.now) 64 (both {x = is_type f.ssi_type} {y = leb (length f.block.now) 64} e.0).1, leb-true f.pdu.len longest_frame e.1)
+    let e = and_parts (is_type f.ssi_type && leb (length f.block.now) 64) (leb f.pdu.len longest_frame) h in
+    (leb-true (length f.block.now) 64 (and_parts (is_type f.ssi_type) (leb (length f.block.now) 64) e.0).1, leb-true f.pdu.len longest_frame e.1)
 
 pub up-most :
     (f : FrameCall) (sdu : Part) (p : Pdu)
@@ -91,4 +100,4 @@ pub up-most :
 unfolding frame_of
 up-most f sdu p h short =
     let small = frame_small f h in
-    up-size (frame_of f) p (bits_of sdu) small.0 (omega (arith, bits-length sdu, short))
+    up-size (frame_of f) p (bits_of sdu) small.0 (omega (arith, length-bits_of sdu, short))

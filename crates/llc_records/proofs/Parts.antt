@@ -7,21 +7,19 @@ use mathlib.Core.Bool.{Bool, true, false}
 use mathlib.Core.List.{List, [], ◌∷◌, ◌++◌, append_assoc}
 use lib.ListN.{length, take, drop, get_or, replicate, length-append, length-drop, length-replicate, replicate-append-replicate}
 use lib.Pow.{shl_exact, shl_lt}
-use lib.Seq.{drop-drop, drop_at, take_at, take-append-le, drop-append-le, length-take-le, get_or-drop}
+use lib.Seq.{drop-drop, drop_at, take_at, take-append-le, drop-append-le, length-take-le}
 use borrow.Rule.Slice.PartMut.{put_mid}
 use Rattle.std.proofs.lemmas.List.{take-append-drop}
 use Rattle.std.specs.Int.{w32, to_be_bytes}
 use Rattle.lists.specs.Writes.{Wrote}
 use Rattle.lists.proofs.Writes.{write-is}
-use Rattle.bits.specs.Bits.{to_bits, value, bits, splice, AllBits}
-use Rattle.bits.specs.Parts.{bits_of}
-use Rattle.bits.specs.declared.parts.Part.{Part}
-use Rattle.bits.proofs.Laws.{length-to_bits, value-to_bits, length-bits, length_part, value-append, take-bits, drop_bits, value-below}
+use Rattle.bits.specs.Bits.{to_bits, value, bits, AllBits}
+use Rattle.bits.proofs.Laws.{length-to_bits, value-to_bits, length-bits, value-append, value-below}
 use Rattle.llc_pdus.specs.declared.Pdu.TheVariants.{BlAck}
 use Rattle.llc_pdus.specs.Headers.{header}
 use Rattle.llc_rule.specs.Calls.{to_bytes}
 use Rattle.llc_rule.specs.Records.{number_field, packed, pack, counted, counted_if_any}
-use Rattle.llc_rule.proofs.Records.{length-to_bytes, length-packed}
+use Rattle.llc_rule.proofs.Records.{length-to_bytes, length-pack}
 
 -- Numbers -----------------------------------------------------------------------------------------------------------------
 
@@ -54,10 +52,6 @@ copied l bytes m i h e =
       holds = rw (e, n, drop-drop (length bytes) i l) (sym (write-is l i bytes h));
     }
 
--- As many bits as a part has.
-pub bits-long : (p : Part) → length (bits_of p) ≡ p.len
-bits-long p = length_part (bits p.bytes.now) p.place p.len (omega (arith, length-bits p.bytes.now, p.inside))
-
 -- Packed bits -------------------------------------------------------------------------------------------------------------
 
 -- n bytes of bits read the first 8 n of them alone.
@@ -87,7 +81,7 @@ pack-append n x y h =
     ap₂ packed size (append_assoc x y z) ∙ packed-append n ((length y + 7) / 8) x (y ++ z) h
 
 -- Bits that fill n bytes.
-pub pack-whole : (n : ℕ) (x : List ℕ) → length x ≡ 8 * n → packed n x ≡ pack x
+pack-whole : (n : ℕ) (x : List ℕ) → length x ≡ 8 * n → packed n x ≡ pack x
 pack-whole n x h =
     let size : (length x + 7) / 8 ≡ n = omega arith in
     rw size (sym (packed-front n x (replicate 7 0) (omega arith)))
@@ -117,56 +111,19 @@ packed-bits (b ∷ l) h =
     rw (take_at t (bits l) 8 (length-to_bits 8 b), drop_at t (bits l) 8 (length-to_bits 8 b), value-to_bits 8 b, packed-bits l (λ i. h (suc i)))
     (ap (λ (k : ℕ). k ∷ l) (mod-eq_of_lt (h 0)))
 
-bytes_take : (n : ℕ) (l : List ℕ) → Bytes l → Bytes (take n l)
-bytes_take zero l h i = omega arith
-bytes_take (suc n) [] h i = omega arith
-bytes_take (suc n) (b ∷ l) h zero = h 0
-bytes_take (suc n) (b ∷ l) h (suc i) = bytes_take n l (λ j. h (suc j)) i
+bytes_behind : (t l : List ℕ) → Bytes (t ++ l) → Bytes l
+bytes_behind [] l h = h
+bytes_behind (b ∷ t) l h = bytes_behind t l (λ i. h (suc i))
 
-bytes_drop : (n : ℕ) (l : List ℕ) → Bytes l → Bytes (drop n l)
-bytes_drop n l h i = rw (get_or-drop n l i 0) (h (n + i))
+bytes_before : (l d : List ℕ) → Bytes (l ++ d) → Bytes l
+bytes_before [] d h i = omega arith
+bytes_before (b ∷ l) d h zero = h 0
+bytes_before (b ∷ l) d h (suc i) = bytes_before l d (λ j. h (suc j)) i
 
--- Bytes between two others: what packs their bits.
-packed-between :
-    (t d x : List ℕ) (k : ℕ)
-    → Bytes t
-    → Bytes d
-    → length x ≡ 8 * k
-    → packed (length t + (k + length d)) (bits t ++ (x ++ bits d)) ≡ t ++ (packed k x ++ d)
-packed-between t d x k ht hd long =
-    packed-append (length t) (k + length d) (bits t) (x ++ bits d) (length-bits t)
-    ∙ ap₂ (λ (a b : List ℕ). a ++ b) (packed-bits t ht)
-    (packed-append k (length d) x (bits d) long ∙ ap (λ (a : List ℕ). packed k x ++ a) (packed-bits d hd))
-
--- Bits that were written to whole bytes are bytes that were written.
-pub wrote-packed :
-    (l m x : List ℕ) (at k : ℕ)
-    → Bytes l
-    → Bytes m
-    → length m ≡ length l
-    → at + k ≤ length l
-    → length x ≡ 8 * k
-    → bits m ≡ splice (bits l) (8 * at) x
-    → Wrote l at (packed k x) m (at + k)
-wrote-packed l m x at k hl hm same room long e =
-    let t : List ℕ = take at l in
-    let d : List ℕ = drop (at + k) l in
-    let lt : length t ≡ at = length-take-le at l (omega arith) in
-    let ld : length d ≡ length l - (at + k) = length-drop (at + k) l in
-    let lv : length (packed k x) ≡ k = length-packed k x in
-    let place : 8 * at + length x ≡ 8 * (at + k) = omega arith in
-    let size : length m ≡ length t + (k + length d) = omega arith in
-    let apart : bits m ≡ bits t ++ (x ++ bits d) =
-    e ∙ rw (place, take-bits at l, drop_bits (at + k) l) in
-    record {
-      next = ap (λ (n : ℕ). at + n) (sym lv);
-      holds =
-          sym (packed-bits m hm)
-          ∙ ap₂ packed size apart
-          ∙ packed-between t d x k (bytes_take at l hl) (bytes_drop (at + k) l hl) long
-          ∙ ap (λ (n : ℕ). take at l ++ (packed k x ++ drop (at + n) l)) (sym lv)
-          ∙ sym (write-is l at (packed k x) (omega arith));
-    }
+-- Bytes among others are their bits, packed.
+pub packed_by_bits : (t l d x : List ℕ) → Bytes (t ++ (l ++ d)) → bits l ≡ x → l ≡ pack x
+packed_by_bits t l d x h e =
+    sym (packed-bits l (bytes_before l d (bytes_behind t (l ++ d) h))) ∙ pack-whole (length l) (bits l) (length-bits l) ∙ ap pack e
 
 -- The last bits ------------------------------------------------------------------------------------------------------------
 
@@ -229,9 +186,6 @@ last_fits x h v all long few e =
     rw (last-exact x h v all long few e) (rw eight at (shl_lt h (8 - h) low))
 
 -- Fields ------------------------------------------------------------------------------------------------------------------
-
-pub length-pack : (l : List ℕ) → length (pack l) ≡ (length l + 7) / 8
-length-pack l = length-packed ((length l + 7) / 8) (l ++ replicate 7 0)
 
 -- Field 0C is its tag, its length, the count and the bytes.
 pub counted_is :

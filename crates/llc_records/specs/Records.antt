@@ -1,6 +1,5 @@
 -- What the structs of a record say.
 use Rattle.std.specs.Prelude.{ℕ, Bool, false, List, ◌++◌}
-use Rattle.std.specs.Prelude as Code
 use Rattle.std.proofs.Math.Option.{Option}
 use Rattle.bits.specs.Parts.{bits_of}
 use Rattle.llc_pdus.specs.declared.Pdu.TheVariants.{BlAck}
@@ -9,10 +8,6 @@ use Rattle.llc_rule.specs.Records.{Sent, Reply, Indication, field, number_field,
 use Rattle.llc_records.specs.declared.SentRecord.{SentRecord}
 use Rattle.llc_records.specs.declared.ReplyRecord.{ReplyRecord}
 use Rattle.llc_records.specs.declared.IndicationRecord.{IndicationRecord}
-
--- A mask, if there is one.
-abbrev pub mask_of : Code.Option ℕ → Option ℕ
-mask_of m = option_of m
 
 -- A message, with its block and its PDU.
 abbrev pub sent : SentRecord → Sent
@@ -25,7 +20,7 @@ sent s =
       endpoint = s.endpoint;
       handle = s.handle;
       steal = s.steal;
-      mask = mask_of s.mask;
+      mask = option_of s.mask;
       receipt = s.receipt;
       block = s.block.now;
       pdu = bits_of s.frame;
@@ -40,7 +35,7 @@ reply s =
       carrier = s.carrier;
       link = s.link;
       steal = s.steal;
-      mask = mask_of s.mask;
+      mask = option_of s.mask;
       pdu = header (BlAck false s.nr);
     }
 

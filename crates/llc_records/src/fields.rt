@@ -2,11 +2,10 @@
 ghost use Rattle.std.specs.Prelude.{◌+◌, ◌/◌, ◌%◌, ◌^◌, ◌≤◌, ◌<◌, ◌≡◌, false, ◌∷◌, length};
 ghost use Rattle.lists.specs.Writes.{Wrote};
 ghost use Rattle.bits.specs.Parts.{bits_of};
-ghost use Rattle.llc_pdus.specs.Headers.{bit, header};
+ghost use Rattle.llc_pdus.specs.Headers.{bit, header, option_of};
 ghost use Rattle.llc_pdus.specs.declared.Pdu.{Pdu};
 ghost use Rattle.llc_rule.specs.Calls.{to_bytes};
 ghost use Rattle.llc_rule.specs.Records.{field, number_field, pack, counted, counted_if_any, masked};
-ghost use Rattle.llc_records.specs.Records.{mask_of};
 
 use bit_fields::{copy_bytes, get};
 use bits::Part;
@@ -69,8 +68,9 @@ fn put_whole(out: &mut [u8], at: usize, bits: Part) -> usize
     requires len_in_bounds { at + bits.len / 8 ≤ length out.old }
     ensures { Wrote out.old at (pack (bits_of bits.entry)) out.new result }
 {
-    copy_bytes(bits.bytes, bits.place, out, at, bits.len / 8);
-    at + bits.len / 8
+    let end = at + bits.len / 8;
+    copy_bytes(bits, &mut out[at..end]);
+    end
 }
 
 // Fewer than eight bits, in the highest bits of a byte.
@@ -124,8 +124,8 @@ pub(crate) fn put_counted_if_any(out: &mut [u8], at: usize, bits: Part) -> usize
 // A mask as field 09, if there is one.
 #[tactic(auto, using(lists::proofs::Writes::wrote_none), unfolding(llc_rule::specs::Calls::to_bytes, llc_rule::specs::Records::masked))]
 pub(crate) fn put_mask(out: &mut [u8], at: usize, mask: Option<u8>) -> usize
-    requires { at + length (masked (mask_of mask)) ≤ length out.old }
-    ensures { Wrote out.old at (masked (mask_of mask)) out.new result }
+    requires { at + length (masked (option_of mask)) ≤ length out.old }
+    ensures { Wrote out.old at (masked (option_of mask)) out.new result }
 {
     match mask {
         Some(m) => put_number(out, at, 0x09, 1, m as u32),

@@ -2,8 +2,9 @@
 ghost use Rattle.std.specs.Prelude.{◌+◌, ◌/◌, ◌^◌, ◌≤◌, ◌<◌, length};
 ghost use Rattle.lists.specs.Writes.{Wrote};
 ghost use Rattle.bits.specs.Parts.{bits_of};
+ghost use Rattle.llc_pdus.specs.Headers.{option_of};
 ghost use Rattle.llc_rule.specs.Records.{masked, counted_if_any, sent_bytes, reply_bytes, indication_bytes};
-ghost use Rattle.llc_records.specs.Records.{mask_of, sent, reply, indication, head_fields, end_fields, route_fields, steal_fields, down_fields, up_fields};
+ghost use Rattle.llc_records.specs.Records.{sent, reply, indication, head_fields, end_fields, route_fields, steal_fields, down_fields, up_fields};
 
 use crate::fields::{
     put_ack, put_block, put_counted, put_counted_if_any, put_flag, put_mask, put_number,
@@ -53,8 +54,8 @@ fn put_route(
 // Field 08, and 09 if there is a mask.
 #[tactic(auto, unfolding(llc_rule::specs::Calls::to_bytes))]
 fn put_steal(out: &mut [u8], at: usize, steal: bool, mask: Option<u8>) -> usize
-    requires { at + 4 + length (masked (mask_of mask)) ≤ length out.old }
-    ensures { Wrote out.old at (steal_fields steal (mask_of mask)) out.new result }
+    requires { at + 4 + length (masked (option_of mask)) ≤ length out.old }
+    ensures { Wrote out.old at (steal_fields steal (option_of mask)) out.new result }
 {
     let p = put_flag(out, at, 0x08, steal);
     put_mask(out, p, mask)
@@ -74,7 +75,7 @@ fn put_down(out: &mut [u8], at: usize, receipt: u8, block: &[u8], frame: Part) -
 }
 
 /// A message as it is handed down.
-#[tactic(auto, unfolding(llc_rule::specs::Calls::to_bytes))]
+#[tactic(auto, using(crate::proofs::Whole::size_sent), unfolding(llc_rule::specs::Calls::to_bytes))]
 pub fn put_sent(out: &mut [u8], at: usize, kind: u8, s: SentRecord) -> usize
     requires block_len_bound { length s.block.now < 2 ^ 16 }
     requires len_bound { s.frame.len < 2 ^ 16 }
@@ -88,7 +89,7 @@ pub fn put_sent(out: &mut [u8], at: usize, kind: u8, s: SentRecord) -> usize
 }
 
 /// An acknowledgement reply as it is handed down.
-#[tactic(auto, unfolding(llc_rule::specs::Calls::to_bytes))]
+#[tactic(auto, using(crate::proofs::Whole::size_reply), unfolding(llc_rule::specs::Calls::to_bytes))]
 pub fn put_reply(out: &mut [u8], at: usize, s: ReplyRecord) -> usize
     requires { at + length (reply_bytes (reply s)) ≤ length out.old }
     ensures { Wrote out.old at (reply_bytes (reply s)) out.new result }
@@ -113,7 +114,7 @@ fn put_up(out: &mut [u8], at: usize, block: &[u8], has_fcs: bool, sdu: Part) -> 
 }
 
 /// What a received frame sends up.
-#[tactic(auto, unfolding(llc_rule::specs::Calls::to_bytes))]
+#[tactic(auto, using(crate::proofs::Whole::size_indication), unfolding(llc_rule::specs::Calls::to_bytes))]
 pub fn put_indication(out: &mut [u8], at: usize, kind: u8, s: IndicationRecord) -> usize
     requires block_len_bound { length s.block.now < 2 ^ 16 }
     requires len_bound { s.sdu.len < 2 ^ 16 }

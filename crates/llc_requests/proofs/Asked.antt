@@ -7,14 +7,13 @@ use mathlib.Core.List.{List}
 use borrow.Author.Tests.{lt-ltb, le-ltb}
 use Rattle.std.specs.Prelude.{Option, None, MatchOption}
 use lib.ListN.{length}
+use Rattle.std.proofs.lemmas.Bool.{cond-true, cond-false}
 use Rattle.lists.specs.Lists.{Found, nothing, first, others}
 use Rattle.lists.specs.Arrays.{position}
-use Rattle.lists.proofs.Choices.{if-true, if-false}
 use Rattle.questions.specs.Outcome.{Outcome, accepted, refused, ask}
 use Rattle.questions.specs.Refusals.{number_of}
 use Rattle.questions.specs.declared.Refusal.{Refusal}
 use Rattle.questions.proofs.Asked.{accepted-passed}
-use Rattle.llc_pdus.specs.declared.Pdu.{Pdu}
 use Rattle.llc_pdus.specs.declared.Pdu.TheVariants.{BlUdata, BlAck}
 use Rattle.llc_rule.specs.Calls.{Request}
 use Rattle.llc_rule.specs.Ranges.{steals, wants_fcs}
@@ -27,7 +26,6 @@ use Rattle.llc_steps.specs.Calls.{ack_for, with_acknowledged, with_unacknowledge
 use Rattle.llc_steps.specs.States.{acks_of, rows_of, with_acks, Kept}
 use Rattle.llc_steps.specs.declared.Answer.{Answer}
 use Rattle.llc_steps.proofs.Updates.{same-acks}
-use Rattle.llc_requests.proofs.Puts.{put-then}
 
 -- An effect by the outcome's own name, and the effect of a no.
 pub as-asked :
@@ -46,7 +44,7 @@ row-refused true p r e = let z : ◌≡◌ {A = ℕ} 0 1 = cc in absurd (omega a
 row-refused false p r e = (refl, cc)
 
 -- The acknowledgement that a request that steals goes with, taken out of a state.
-abbrev stolen : Request → State → Found ScheduledOutAck
+abbrev pub stolen : Request → State → Found ScheduledOutAck
 stolen r s = cond (steals r) (ack_for r s) nothing
 
 pub record Stolen (r : Request) (s : State) (due : Option ScheduledOutAck) (u : State) : Type 0 where
@@ -61,7 +59,7 @@ pub stolen-due :
     → u ≡ with_acks s (others (ack_for r s) (acks_of s))
     → Stolen r s due u
 stolen-due r s due {u} e t value left =
-    let f : ack_for r s ≡ stolen r s = sym (if-true (ack_for r s) nothing (sym e ∙ t)) in
+    let f : ack_for r s ≡ stolen r s = sym (cond-true _ (ack_for r s) nothing (sym e ∙ t)) in
     record {
       value = subst (λ (g : Found ScheduledOutAck). MatchOption due (g ≡ nothing) (λ d. g ≡ first d (acks_of u))) f value;
       left = subst (λ (g : Found ScheduledOutAck). u ≡ with_acks s (others g (acks_of s))) f left;
@@ -69,7 +67,7 @@ stolen-due r s due {u} e t value left =
 
 pub none-stolen : (r : Request) (s : State) {x : Bool} → x ≡ steals r → x ≡ false → s.n_acks ≤ length s.scheduled_out_acks → Stolen r s None s
 none-stolen r s e t few =
-    let f : stolen r s ≡ nothing = if-false (ack_for r s) nothing (sym e ∙ t) in
+    let f : stolen r s ≡ nothing = cond-false _ (ack_for r s) nothing (sym e ∙ t) in
     record {
       value = f;
       left = sym (same-acks s few) ∙ ap (λ (g : Found ScheduledOutAck). with_acks s (others g (acks_of s))) (sym f);
@@ -104,9 +102,6 @@ module _ (r : Request) (s : State) (b : List ℕ) where
     data-7 e h = let no = row-refused (row_for r.ssi s) _ e h in rw (t, path, no.0, no.1)
 
     module _ {row : ℕ} (h : accepted row ≡ ask 7 (row_for r.ssi s) (accepted (position (row_of r.ssi) (rows_of s)))) where
-      pub row-is : row ≡ position (row_of r.ssi) (rows_of s)
-      row-is = cc (accepted-passed 7 (row_for r.ssi s) h).1
-
       pub data-8 : 64 ≤ s.n_messages → on_data r s b ≡ refused 8
       unfolding on_data
       data-8 full = rw (t, path, (accepted-passed 7 (row_for r.ssi s) h).0, le-ltb s.n_messages 64 full)
@@ -129,27 +124,24 @@ module _ (r : Request) (s : State) (b : List ℕ) where
     unfolding on_data
     data-stolen room = rw (t, path, lt-ltb s.n_udata 32 room) (ap accepted (by-steals (steals r)))
 
-    module _ (room : s.n_udata < 32) {u : State} (left : u ≡ with_acks s (others (stolen r s) (acks_of s))) where
-      put-same :
-          (link : ℕ) (pdu : Pdu) (ds : List ScheduledOutAck)
-          → others (stolen r s) (acks_of s) ≡ ds
-          → with_unacknowledged r link pdu (acks_of u) u b ≡ with_unacknowledged r link pdu ds s b
-      put-same link pdu ds e =
-          ap (λ (t : State). with_unacknowledged r link pdu (acks_of t) t b) (left ∙ ap (with_acks s) e) ∙ put-then r s b link pdu ds
+    -- With the acknowledgement, or with none.
+    with-due :
+        (f : Found ScheduledOutAck) {d : ScheduledOutAck} {left : List ScheduledOutAck}
+        → f ≡ first d left
+        → with_stolen r s b f ≡ with_unacknowledged r r.link (BlAck (wants_fcs r) d.nr) (others f (acks_of s)) s b
+    unfolding with_stolen
+    with-due f e = rw e refl
 
+    without-due : (f : Found ScheduledOutAck) → f ≡ nothing → with_stolen r s b f ≡ with_unacknowledged r 0 (BlUdata false) (others f (acks_of s)) s b
+    unfolding with_stolen
+    without-due f e = rw e refl
+
+    module _ (room : s.n_udata < 32) where
       pub data-with :
-          {d : ScheduledOutAck}
-          → stolen r s ≡ first d (acks_of u)
-          → on_data r s b ≡ accepted (with_unacknowledged r r.link (BlAck (wants_fcs r) d.nr) (acks_of u) u b)
-      unfolding with_stolen
-      data-with {d} e =
-          data-stolen room
-          ∙ ap (λ (f : Found ScheduledOutAck). accepted (with_stolen r s b f)) e
-          ∙ ap accepted (sym (put-same r.link (BlAck (wants_fcs r) d.nr) (acks_of u) (ap (λ (f : Found ScheduledOutAck). others f (acks_of s)) e)))
+          {d : ScheduledOutAck} {left : List ScheduledOutAck}
+          → stolen r s ≡ first d left
+          → on_data r s b ≡ accepted (with_unacknowledged r r.link (BlAck (wants_fcs r) d.nr) (others (stolen r s) (acks_of s)) s b)
+      data-with e = data-stolen room ∙ ap accepted (with-due (stolen r s) e)
 
-      pub data-without : stolen r s ≡ nothing → on_data r s b ≡ accepted (with_unacknowledged r 0 (BlUdata false) (acks_of u) u b)
-      unfolding with_stolen
-      data-without e =
-          data-stolen room
-          ∙ ap (λ (f : Found ScheduledOutAck). accepted (with_stolen r s b f)) e
-          ∙ ap accepted (sym (put-same 0 (BlUdata false) (acks_of s) (ap (λ (f : Found ScheduledOutAck). others f (acks_of s)) e)))
+      pub data-without : stolen r s ≡ nothing → on_data r s b ≡ accepted (with_unacknowledged r 0 (BlUdata false) (others (stolen r s) (acks_of s)) s b)
+      data-without e = data-stolen room ∙ ap accepted (without-due (stolen r s) e)

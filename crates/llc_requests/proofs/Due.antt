@@ -4,10 +4,10 @@ use native.Mathlib.Omega.{arith}
 use mathlib.Core.Path.{◌≡◌, ◌∙◌, sym, ap}
 use mathlib.Core.List.{List}
 use Rattle.std.specs.Prelude.{Option, Some, None, MatchOption}
-use lib.ListN.{length, get_or, length-append, length-take}
+use lib.ListN.{length, get_or, length-take}
 use lib.Seq.{length-take-le}
 use Rattle.lists.specs.Lists.{nothing, first, others}
-use Rattle.lists.specs.Arrays.{position, place_in, without, laid}
+use Rattle.lists.specs.Arrays.{position, place_in, without}
 use Rattle.lists.proofs.Arrays.{found_at, found_none, take-laid}
 use Rattle.llc_rule.specs.Calls.{Request}
 use Rattle.llc_state.specs.States.{no_ack}
@@ -26,7 +26,10 @@ acks-then s ds = take-laid no_ack s.n_acks ds s.scheduled_out_acks
 module _
     (r : Request) (s : State) {carrier : ℕ} (o : Option ℕ)
     (on : carrier ≡ carrier_for r s) (at : place_in s.n_acks o ≡ position (ack_on r.ssi carrier) (acks_of s))
-    (few : s.n_acks ≤ length s.scheduled_out_acks) where
+    (count : length (acks_of s) ≡ s.n_acks) where
+  few : s.n_acks ≤ length s.scheduled_out_acks
+  few = omega (arith, length-take s.n_acks s.scheduled_out_acks, count)
+
   place : place_in s.n_acks o ≡ position (ack_on r.ssi (carrier_for r s)) (acks_of s)
   place = at ∙ ap (λ (k : ℕ). position (ack_on r.ssi k) (acks_of s)) on
 
@@ -67,9 +70,3 @@ module _
       → MatchOption out (ack_for r s ≡ nothing) (λ (d : ScheduledOutAck). ack_for r s ≡ first d (acks_of t))
   taken-due e below None h left = absurd (omega (arith, below, h))
   taken-due e below (Some d) h left = first-due e below h.1 left
-
--- The array holds those that are due afterwards.
-pub held-then :
-    (s : State) (ds : List ScheduledOutAck) {t : State} → t ≡ with_acks s ds → t.n_acks ≤ length t.scheduled_out_acks
-unfolding laid
-held-then s ds e = rw e (omega (arith, length-append {A = ScheduledOutAck}))

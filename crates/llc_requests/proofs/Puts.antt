@@ -8,9 +8,10 @@ use borrow.Author.Tests.{leb-true, ltb-true}
 use Rattle.std.specs.Prelude.{Option, Some, None, MatchOption}
 use lib.Dec.{eqb, leb, ltb}
 use lib.ListN.{length, get_or, set, length-take}
+use Rattle.std.proofs.lemmas.Bool.{and_parts}
 use Rattle.lists.specs.Lists.{Found, nothing, first, others}
 use Rattle.lists.specs.Arrays.{position, placed}
-use Rattle.lists.proofs.Choices.{both}
+use Rattle.lists.proofs.Arrays.{position-within}
 use Rattle.questions.specs.Outcome.{accepted}
 use Rattle.bits.specs.Bits.{splice}
 use Rattle.llc_pdus.specs.declared.Pdu.{Pdu}
@@ -34,19 +35,17 @@ use Rattle.llc_state.specs.declared.State.{State}
 use Rattle.llc_steps.specs.Answers.{effect, answer, laid_out, WithAnyOut}
 use Rattle.llc_steps.specs.Calls.{entry_of, carrier_for, ack_for, seq_of, with_seq, next_seq, data_pdu, with_acknowledged, with_unacknowledged, row_of}
 use Rattle.llc_steps.specs.Places.{used_places, free_place}
-use Rattle.llc_steps.specs.States.{messages_of, udata_of, acks_of, rows_of, with_messages, with_udata, with_acks, with_rows, Kept, kept}
+use Rattle.llc_steps.specs.States.{messages_of, udata_of, acks_of, rows_of, with_messages, with_udata, with_acks, with_rows, Kept}
 use Rattle.llc_steps.proofs.Places.{free-place}
 use Rattle.llc_steps.proofs.Rows.{seq-at, placed-seq}
-use Rattle.llc_steps.proofs.Updates.{same-acks}
-use Rattle.llc_requests.proofs.Due.{held-then}
 
 -- What question 5 tells of a request.
-pub record Allowed (q : RequestCall) : Type 0 where
-  pub receipt : q.receipt < 128
-  pub block : length q.block.now ≤ 64
-  pub sdu : q.sdu.len ≤ longest
+record Allowed (q : RequestCall) : Type 0 where
+  receipt : q.receipt < 128
+  block : length q.block.now ≤ 64
+  sdu : q.sdu.len ≤ longest
 
-pub allowed : (q : RequestCall) → request_range q ≡ true → Allowed q
+allowed : (q : RequestCall) → request_range q ≡ true → Allowed q
 unfolding request_range
 allowed q h =
     let others : Bool =
@@ -57,14 +56,23 @@ allowed q h =
     && ltb q.mask 16
     && (eqb (q.flags / 4 % 2) 1 || eqb q.mask 0)
     in
-    let sdu = both {y = leb q.sdu.len longest} h in
-    let block = both {y = leb (length q.block.now) 64} sdu.0 in
-    let receipt = both {x = others} {y = is_receipt q.receipt} block.0 in
+    let sdu = and_parts _ (leb q.sdu.len longest) h in
+    let block = and_parts _ (leb (length q.block.now) 64) sdu.0 in
+    let receipt = and_parts others (is_receipt q.receipt) block.0 in
     record {
       receipt = ltb-true q.receipt 128 receipt.1;
       block = leb-true (length q.block.now) 64 block.1;
       sdu = leb-true q.sdu.len longest sdu.1;
     }
+
+pub receipt_below : (q : RequestCall) → request_range q ≡ true → q.receipt < 128
+receipt_below q h = (allowed q h).receipt
+
+pub block_at_most : (q : RequestCall) → request_range q ≡ true → length q.block.now ≤ 64
+block_at_most q h = (allowed q h).block
+
+pub sdu_at_most : (q : RequestCall) → request_range q ≡ true → q.sdu.len ≤ longest
+sdu_at_most q h = (allowed q h).sdu
 
 -- A message has a place in the store where a queue has room.
 pub place-below : (s : State) → s.n_messages + s.n_udata < store_places → free_place s < store_places
@@ -72,6 +80,9 @@ place-below s h =
     let ms = length-take s.n_messages s.outbound_messages in
     let us = length-take s.n_udata s.outbound_udata_messages in
     (free-place s (omega arith)).0
+
+-- What the two requests ask of the functions that they call.
+pub ruleset asking = (receipt_below, block_at_most, sdu_at_most, place-below, position-within)
 
 -- Which acknowledgements are due says nothing of the place.
 free-place-then : (s : State) (ds : List ScheduledOutAck) → free_place (with_acks s ds) ≡ free_place s
@@ -145,47 +156,35 @@ put-acknowledged r s before after row due pdu {carrier} {seq} {place} {len} {e} 
     in
     no-records (with_acknowledged r s before) state (after_is ∙ (λ i. splice before (place_bit (at i)) (frame (pdus i)))) refl
 
--- A message that is not acknowledged.
+-- A message that is not acknowledged, in a state where others are due than in the one before.
 pub put-unacknowledged :
-    (r : Request) (s : State) (before after : List ℕ) (link : ℕ) (pdu : Pdu)
-    {carrier place len : ℕ} {e : Entry} {s₁ s₂ : State}
-    → s.n_acks ≤ length s.scheduled_out_acks
-    → carrier ≡ carrier_for r s
-    → place ≡ free_place s
+    (r : Request) (s : State) (ds : List ScheduledOutAck) (before after : List ℕ) (link : ℕ) (pdu : Pdu)
+    {carrier place len : ℕ} {e : Entry} {s₁ s₂ s₃ : State}
+    → s₁ ≡ with_acks s ds
+    → carrier ≡ carrier_for r s₁
+    → place ≡ free_place s₁
     → after ≡ splice before (place_bit place) (frame_bits pdu r.sdu)
     → len ≡ length (frame_bits pdu r.sdu)
     → e ≡ entry_of r carrier link place len false
-    → s₁ ≡ with_udata s (udata_of s ++ (e ∷ []))
-    → s₂ ≡ take_receipt s₁ r.receipt false
-    → WithAnyOut (answer 0 s₂ 0) after s before (accepted (with_unacknowledged r link pdu (acks_of s) s before))
+    → s₂ ≡ with_udata s₁ (udata_of s₁ ++ (e ∷ []))
+    → s₃ ≡ take_receipt s₂ r.receipt false
+    → WithAnyOut (answer 0 s₃ 0) after s before (accepted (with_unacknowledged r link pdu ds s before))
 unfolding with_unacknowledged
-put-unacknowledged r s before after link pdu {carrier} {place} {len} {e} {s₁} {s₂}
-    few carrier-is place_is after_is len_is e-is s₁_is s₂_is =
+put-unacknowledged r s ds before after link pdu {carrier} {place} {len} {e} {s₁} {s₂} {s₃}
+    s₁_is carrier-is place_is after_is len_is e-is s₂_is s₃_is =
     let pdus : List ℕ = frame_bits pdu r.sdu in
     let places : List ReceiptPlace = set s.receipts r.receipt (pending_place false) in
+    let on : carrier ≡ carrier_for r s = carrier-is ∙ ap (carrier_for r) s₁_is in
+    let at : place ≡ free_place s = place_is ∙ ap free_place s₁_is ∙ free-place-then s ds in
     let entry : e ≡ entry_of r (carrier_for r s) link (free_place s) (length pdus) false =
-    e-is ∙ (λ i. entry_of r (carrier-is i) link (place_is i) (len_is i) false)
+    e-is ∙ (λ i. entry_of r (on i) link (at i) (len_is i) false)
     in
-    let us : List Entry = udata_of s ++ (entry_of r (carrier_for r s) link (free_place s) (length pdus) false ∷ []) in
-    let state : s₂ ≡ (with_unacknowledged r link pdu (acks_of s) s before).state =
-    s₂_is
-    ∙ ap (λ (t : State). take_receipt t r.receipt false) s₁_is
-    ∙ ap (λ (t : Entry). with_places (with_udata s (udata_of s ++ (t ∷ []))) places) entry
-    ∙ ap (λ (t : State). with_places (with_udata t us) places) (sym (same-acks s few))
+    let state : s₃ ≡ (with_unacknowledged r link pdu ds s before).state =
+    s₃_is
+    ∙ ap (λ (t : State). take_receipt t r.receipt false)
+    (s₂_is ∙ ap (λ (t : State). with_udata t (udata_of t ++ (e ∷ []))) s₁_is)
+    ∙ ap (λ (t : Entry). with_places (with_acks (with_udata s (udata_of s ++ (t ∷ []))) ds) places) entry
     in
-    no-records (with_unacknowledged r link pdu (acks_of s) s before) state
-    (after_is ∙ ap (λ (k : ℕ). splice before (place_bit k) pdus) place_is)
+    no-records (with_unacknowledged r link pdu ds s before) state
+    (after_is ∙ ap (λ (k : ℕ). splice before (place_bit k) pdus) at)
     refl
-
--- It is put into a state with other acknowledgements due as it is into the state that they are put to.
-pub put-then :
-    (r : Request) (s : State) (b : List ℕ) (link : ℕ) (pdu : Pdu) (ds : List ScheduledOutAck)
-    → with_unacknowledged r link pdu (acks_of (with_acks s ds)) (with_acks s ds) b ≡ with_unacknowledged r link pdu ds s b
-unfolding with_unacknowledged free_place used_places
-put-then r s b link pdu ds =
-    let t : State = with_acks s ds in
-    let pdus : List ℕ = frame_bits pdu r.sdu in
-    let us : List Entry = udata_of s ++ (entry_of r (carrier_for r s) link (free_place s) (length pdus) false ∷ []) in
-    let places : List ReceiptPlace = set s.receipts r.receipt (pending_place false) in
-    let few : t.n_acks ≤ length t.scheduled_out_acks = held-then s ds refl in
-    ap (λ (u : State). kept (with_places (with_udata u us) places) (splice b (place_bit (free_place s)) pdus) []) (same-acks t few)

@@ -21,7 +21,7 @@ use Rattle.llc_pdus.proofs.Framing.{frame-short, has_room as all-written}
 use Rattle.llc_rule.specs.Limits.{place_bytes, store_bytes, store_places}
 use Rattle.llc_calls.specs.Decoded.{request_of}
 use Rattle.llc_calls.specs.declared.RequestCall.{RequestCall}
-use Rattle.llc_calls.proofs.Laws.{bits-length}
+use Rattle.bits.proofs.PartLaws.{length-bits_of}
 use Rattle.llc_state.specs.View.{place_bit}
 
 -- Bits put to the front of k bytes from a place on are put there in the whole.
@@ -83,7 +83,7 @@ put p q place xs ys r long there few e =
     let s : List ℕ = bits q.sdu.bytes.now in
     let inside : q.sdu.place + q.sdu.len ≤ length s = omega (arith, length-bits q.sdu.bytes.now, q.sdu.inside) in
     let frame : List ℕ = frame_bits p (bits_of q.sdu) in
-    let short : length frame ≤ longest_sent = frame-short p (bits_of q.sdu) (omega (arith, bits-length q.sdu)) in
+    let short : length frame ≤ longest_sent = frame-short p (bits_of q.sdu) (omega (arith, length-bits_of q.sdu)) in
     let done : effect (outcome r) (bits ys) ≡ effect (accepted (length frame)) (splice (bits mid) 0 frame) =
     e ∙ all-written p (bits mid) s q.sdu.place q.sdu.len few (omega (arith, q.sdu.begins)) (omega arith)
     in

@@ -4,7 +4,6 @@ ghost use Rattle.bits.specs.Bits.{bits, splice};
 ghost use Rattle.llc_pdus.specs.Frames.{frame_bits};
 ghost use Rattle.llc_pdus.specs.Writes.{longest};
 ghost use Rattle.llc_rule.specs.Limits.{store_bytes, store_places};
-ghost use Rattle.llc_rule.specs.Ranges.{steals, wants_fcs};
 ghost use Rattle.llc_calls.specs.Decoded.{request_of};
 ghost use Rattle.llc_state.specs.View.{place_bit};
 ghost use Rattle.llc_steps.specs.Calls.{sent_for, entry_of};
@@ -12,22 +11,6 @@ ghost use Rattle.llc_steps.specs.Calls.{sent_for, entry_of};
 use llc_calls::RequestCall;
 use llc_pdus::{Pdu, to_bitbuf};
 use llc_state::{Entry, FramePlace, PLACE_BYTES, Progress, TmaUnitdataReq};
-
-// Flag 1: does a request steal?
-#[tactic(auto, unfolding(llc_calls::specs::Decoded::request_of))]
-pub(crate) fn steals(q: &RequestCall) -> bool
-    ensures { result ≡ steals (request_of q.now) }
-{
-    q.flags % 2 == 1
-}
-
-// Flag 2: does it want a check sequence?
-#[tactic(auto, unfolding(llc_calls::specs::Decoded::request_of))]
-pub(crate) fn wants_fcs(q: &RequestCall) -> bool
-    ensures { result ≡ wants_fcs (request_of q.now) }
-{
-    q.flags / 2 % 2 == 1
-}
 
 // The block of a request, with zeros behind it.
 #[tactic(auto, unfolding(llc_calls::specs::Decoded::request_of))]
@@ -53,8 +36,8 @@ fn sent_of(q: &RequestCall, carrier: u16, link: u32) -> TmaUnitdataReq
         link_id: link,
         endpoint_id: q.endpoint,
         req_handle: q.handle,
-        stealing_permission: steals(q),
-        has_mask: q.flags / 4 % 2 == 1,
+        stealing_permission: q.steals(),
+        has_mask: q.has_mask(),
         mask: q.mask,
         receipt: q.receipt,
         block_len: q.block.len(),

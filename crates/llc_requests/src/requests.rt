@@ -1,5 +1,5 @@
 // The two requests.
-ghost use Rattle.std.specs.Prelude.{◌≤◌, ◌<◌, ◌≡◌, true, length, MatchOption};
+ghost use Rattle.std.specs.Prelude.{◌≤◌, ◌<◌, ◌≡◌, true, List, length, MatchOption};
 ghost use Rattle.lists.specs.Lists.{nothing, first, others};
 ghost use Rattle.lists.specs.Arrays.{position};
 ghost use Rattle.questions.specs.Outcome.{accepted};
@@ -15,7 +15,7 @@ ghost use Rattle.llc_steps.specs.Answers.{WithAnyOut, answer, answered, done};
 ghost use Rattle.llc_steps.specs.States.{acks_of, rows_of, with_acks};
 ghost use Rattle.llc_steps.specs.Calls.{with_acknowledged, with_unacknowledged, on_data, on_unitdata, row_of, ack_for};
 
-use crate::entries::{entry_of, put_frame, steals, wants_fcs};
+use crate::entries::{entry_of, put_frame};
 use llc_calls::RequestCall;
 use llc_pdus::Pdu;
 use llc_queues::{
@@ -40,7 +40,6 @@ fn preferred_carrier(q: &RequestCall, main_carrier: u16) -> u16
 // Takes out the oldest acknowledgement that is due to the address of a request on its carrier, if there is one.
 fn take_due_ack(state: &mut State, q: &RequestCall) -> Option<ScheduledOutAck>
     requires n_acks_bound { state.old.n_acks ≤ 64 }
-    requires acks_held { state.old.n_acks ≤ length state.old.scheduled_out_acks }
     ensures value { MatchOption result (ack_for (request_of q.now) state.old ≡ nothing) (λ d. ack_for (request_of q.now) state.old ≡ first d (acks_of state.new)) }
     ensures state_after { state.new ≡ with_acks state.old (others (ack_for (request_of q.now) state.old) (acks_of state.old)) }
 {
@@ -52,7 +51,7 @@ fn take_due_ack(state: &mut State, q: &RequestCall) -> Option<ScheduledOutAck>
 fn data_pdu(q: &RequestCall, due: Option<ScheduledOutAck>, ns: bool) -> Pdu
     ensures { MatchOption due (result ≡ BlData (wants_fcs (request_of q.now)) ns) (λ d. result ≡ BlAdata (wants_fcs (request_of q.now)) d.nr ns) }
 {
-    let has_fcs = wants_fcs(q);
+    let has_fcs = q.wants_fcs();
     match due {
         Some(ack) => Pdu::BlAdata {
             has_fcs,
@@ -64,13 +63,13 @@ fn data_pdu(q: &RequestCall, due: Option<ScheduledOutAck>, ns: bool) -> Pdu
 }
 
 // Puts a message last that is to be acknowledged, for the row of a place.
+#[tactic(auto, using(llc_state::proofs::Counts::counts, crate::proofs::Puts::asking))]
 fn put_acknowledged(state: &mut State, store: &mut [u8], q: &RequestCall, row: usize)
     requires state_value { state_in_range state.old ≡ true }
     requires store_len { length store.old ≡ store_bytes }
     requires q_value { request_range q.now ≡ true }
     requires row_value { row ≡ position (row_of q.now.ssi) (rows_of state.old) }
     requires row_bound { row < 256 }
-    requires acks_held { state.old.n_acks ≤ length state.old.scheduled_out_acks }
     requires n_messages_bound { state.old.n_messages < 64 }
     ensures { WithAnyOut (answer 0 state.new 0) (bits store.new) state.old (bits store.old) (accepted (with_acknowledged (request_of q.now) state.old (bits store.old))) }
 {
@@ -84,7 +83,7 @@ fn put_acknowledged(state: &mut State, store: &mut [u8], q: &RequestCall, row: u
         state,
         entry_of(q, carrier, 0, FramePlace { place, len }, seq.vs),
     );
-    state.take_receipt(q.receipt as usize, true);
+    state.take_receipt(q.receipt, true);
     set_send_seq(
         state,
         row,
@@ -96,14 +95,14 @@ fn put_acknowledged(state: &mut State, store: &mut [u8], q: &RequestCall, row: u
     );
 }
 
-// Puts a message last that is not acknowledged, behind a header.
+// Puts a message last that is not acknowledged, behind a header. An acknowledgement may have been taken out before.
+#[tactic(auto, using(llc_state::proofs::Counts::counts, crate::proofs::Puts::asking))]
 fn put_unacknowledged(state: &mut State, store: &mut [u8], q: &RequestCall, link: u32, pdu: Pdu)
     requires n_messages_bound { state.old.n_messages ≤ 64 }
     requires n_udata_bound { state.old.n_udata < 32 }
-    requires acks_held { state.old.n_acks ≤ length state.old.scheduled_out_acks }
     requires store_len { length store.old ≡ store_bytes }
     requires q_value { request_range q.now ≡ true }
-    ensures { WithAnyOut (answer 0 state.new 0) (bits store.new) state.old (bits store.old) (accepted (with_unacknowledged (request_of q.now) link pdu (acks_of state.old) state.old (bits store.old))) }
+    ensures { (s : State) (ds : List ScheduledOutAck) → state.old ≡ with_acks s ds → WithAnyOut (answer 0 state.new 0) (bits store.new) s (bits store.old) (accepted (with_unacknowledged (request_of q.now) link pdu ds s (bits store.old))) }
 {
     let carrier = preferred_carrier(q, state.main_carrier);
     let place = free_place(state);
@@ -112,10 +111,11 @@ fn put_unacknowledged(state: &mut State, store: &mut [u8], q: &RequestCall, link
         state,
         entry_of(q, carrier, link, FramePlace { place, len }, false),
     );
-    state.take_receipt(q.receipt as usize, false);
+    state.take_receipt(q.receipt, false);
 }
 
 /// A data request.
+#[tactic(auto, using(llc_state::proofs::Counts::counts, crate::proofs::Puts::asking))]
 pub fn rx_tla_tldata_req_bl(
     state: &mut State,
     store: &mut [u8],
@@ -129,18 +129,18 @@ pub fn rx_tla_tldata_req_bl(
     if state.receipts[q.receipt as usize].taken {
         return Err(Refusal::ReceiptTaken);
     }
-    if q.ssi_type == 1 && !steals(q) {
+    if q.ssi_type == 1 && !q.steals() {
         let row = send_seq_row(state, q.ssi)?;
-        if 64 <= state.n_messages {
+        if state.n_messages >= state.outbound_messages.len() {
             return Err(Refusal::NoRoom);
         }
         put_acknowledged(state, store, q, row);
         return Ok(());
     }
-    if 32 <= state.n_udata {
+    if state.n_udata >= state.outbound_udata_messages.len() {
         return Err(Refusal::NoRoom);
     }
-    let due = if steals(q) {
+    let due = if q.steals() {
         take_due_ack(state, q)
     } else {
         None
@@ -148,7 +148,7 @@ pub fn rx_tla_tldata_req_bl(
     match due {
         Some(ack) => {
             let header = Pdu::BlAck {
-                has_fcs: wants_fcs(q),
+                has_fcs: q.wants_fcs(),
                 nr: ack.nr,
             };
             put_unacknowledged(state, store, q, q.link, header);
@@ -159,6 +159,7 @@ pub fn rx_tla_tldata_req_bl(
 }
 
 /// A unitdata request.
+#[tactic(auto, using(llc_state::proofs::Counts::counts, crate::proofs::Puts::asking))]
 pub fn rx_tla_tlunitdata_req_bl(
     state: &mut State,
     store: &mut [u8],
@@ -172,7 +173,7 @@ pub fn rx_tla_tlunitdata_req_bl(
     if state.receipts[q.receipt as usize].taken {
         return Err(Refusal::ReceiptTaken);
     }
-    if 32 <= state.n_udata {
+    if state.n_udata >= state.outbound_udata_messages.len() {
         return Err(Refusal::NoRoom);
     }
     put_unacknowledged(state, store, q, q.link, Pdu::BlUdata { has_fcs: false });

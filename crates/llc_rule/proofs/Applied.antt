@@ -1,7 +1,6 @@
 -- The theorems applied to the instance: two requests that change places, a request that is handed down four times, a text and an
 -- acknowledgement that come with check bits, two frames that are handed down with them, and a repeat.
-use Prim.Native.Nat.{ℕ, zero, suc, ◌<◌}
-use native.Mathlib.Omega.{arith}
+use Prim.Native.Nat.{ℕ, suc}
 use mathlib.Core.Path.{◌≡◌, ◌∙◌, refl, sym, ap, subst}
 use mathlib.Core.Bool.{true, false}
 use mathlib.Core.List.{List, [], ◌∷◌, ◌++◌, map}
@@ -9,6 +8,7 @@ use mathlib.Core.Option.{none, some, some-injective}
 use borrow.Author.Tests.{ltb-true}
 use lib.Dec.{eqb, ltb}
 use lib.ListN.{length, get_or, take, drop}
+use lib.Seq.{split_at}
 use Rattle.lists.specs.Lists.{all, All}
 use Rattle.bits.specs.Bits.{to_bits}
 use Rattle.questions.specs.Outcome.{accepted, number}
@@ -129,12 +129,6 @@ pub four-times : eqb (length (sendings 0x22 (run (left asked (step asked ask_sec
 unfolding sendings handed done_to about run after to_bytes exchanges opening_calls later_calls
 four-times = refl
 
--- A list taken apart at a place.
-parts : {A : Type 0} (k : ℕ) (l : List A) (d : A) → k < length l → l ≡ take k l ++ (get_or l k d ∷ drop (suc k) l)
-parts k [] d e = absurd (omega (arith, e))
-parts zero (x ∷ l) d e = refl
-parts {A = A} (suc k) (x ∷ l) d e = ap (λ (m : List A). x ∷ m) (parts k l d (omega (arith, e)))
-
 -- The exchanges of the instance, computed, and the one of a place.
 abbrev nothing : Exchange
 nothing = record { call = []; number = 0; records = [] }
@@ -152,7 +146,7 @@ told_at k = get_or told k nothing
 
 -- It is taken apart at one place, and at one and a later one.
 at_one : (k : ℕ) → ltb k (length told) ≡ true → run new instance_calls ≡ take k told ++ (told_at k ∷ drop (suc k) told)
-at_one k e = told_is ∙ parts k told nothing (ltb-true k (length told) e)
+at_one k e = told_is ∙ split_at told k nothing (ltb-true k (length told) e)
 
 at-two :
     (k j : ℕ)
@@ -162,7 +156,7 @@ at-two :
     ≡ take k told ++ (told_at k ∷ (take j (drop (suc k) told) ++ (get_or (drop (suc k) told) j nothing ∷ drop (suc j) (drop (suc k) told))))
 at-two k j e g =
     at_one k e
-    ∙ ap (λ (l : List Exchange). take k told ++ (told_at k ∷ l)) (parts j (drop (suc k) told) nothing (ltb-true j (length (drop (suc k) told)) g))
+    ∙ ap (λ (l : List Exchange). take k told ++ (told_at k ∷ l)) (split_at (drop (suc k) told) j nothing (ltb-true j (length (drop (suc k) told)) g))
 
 -- A text that comes with its check bits goes up without them, and an acknowledgement with an FCS and nothing else sends nothing
 -- up.
@@ -342,7 +336,7 @@ enough = refl
 
 pub answers-parts : ruled second (run new instance_calls) ≡ take 3 answers ++ (fourth ∷ drop 4 answers)
 unfolding fourth
-answers-parts = answers-are ∙ parts 3 answers nothing (ltb-true 3 (length answers) enough)
+answers-parts = answers-are ∙ split_at answers 3 nothing (ltb-true 3 (length answers) enough)
 
 -- And it hands it down four times.
 pub four-by-rule : AtMostFour second_request (sendings 0x22 (drop 4 (ruled second (run new instance_calls))))

@@ -5,8 +5,9 @@ use mathlib.Core.Path.{◌≡◌, ◌∙◌, refl, sym, ap, ap₂}
 use mathlib.Core.Bool.{true, false, cond, not, ◌&&◌, ◌||◌, false≢true}
 use mathlib.Core.List.{List, [], ◌∷◌, ◌++◌, map, map-append, append-nil}
 use mathlib.Core.Option.{Option, none, some}
+use Rattle.std.proofs.lemmas.Bool.{and_parts}
 use Rattle.lists.specs.Lists.{keep, all, among, first_or}
-use Rattle.lists.proofs.Choices.{by-test, either, both}
+use Rattle.lists.proofs.Choices.{by-test, either}
 use Rattle.questions.specs.Outcome.{Outcome, accepted, refused, number}
 use Rattle.llc_rule.specs.Calls.{Call, is_start, parsed}
 use Rattle.llc_rule.specs.Ranges.{in_range}
@@ -82,7 +83,7 @@ mine a h l c ok u w = mine-by a h l c (step l c) refl (judged-is a h l (parsed c
 -- A call of its past concerns the address.
 pub concerned : (a : ℕ) (h : Holders) (e : Exchange) → in_past a h e ≡ true → concerns a (whose h e.call) ≡ true
 unfolding in_past
-concerned a h e p = (both {x = not (left_out e.number)} {y = concerns a (whose h e.call)} p).1
+concerned a h e p = (and_parts (not (left_out e.number)) (concerns a (whose h e.call)) p).1
 
 whose-accepted : (h : Holders) (bytes : List ℕ) (c : Call) → parsed bytes ≡ accepted c → whose h bytes ≡ whose_of h (about_call c).whom
 unfolding whose about
@@ -189,7 +190,7 @@ unfolding history run after unhindered all
 sees a k l [] ok u s = s
 sees a k l (c ∷ cs) ok u s =
     let e : Exchange = exchange c (step l c) in
-    let now = both {x = not (among e.number hindrances)} {y = unhindered (run (left l (step l c)) cs)} u in
+    let now = and_parts (not (among e.number hindrances)) (unhindered (run (left l (step l c)) cs)) u in
     sees a (and_then e k) (left l (step l c)) cs (sound-next k l c ok) now.1 (seen_next a k l c ok s now.0)
 
 pub holder-somebody : (a : ℕ) (w : Option ℕ) → is_holder a w ≡ true → is_nobody w ≡ false

@@ -3,9 +3,11 @@ use Prim.Native.Nat.{ℕ}
 use mathlib.Core.Path.{◌≡◌, ◌∙◌, refl, sym, ap, subst}
 use mathlib.Core.Bool.{Bool, true, false, not, ◌&&◌, true≢false}
 use mathlib.Core.Option.{Option, none, some}
+use borrow.Author.Clash.{clash}
 use borrow.Author.Tests.{eqb-true, eq-eqb}
 use lib.Dec.{eqb}
-use Rattle.lists.proofs.Choices.{by-test, either, clash, if-true, if-false}
+use Rattle.std.proofs.lemmas.Bool.{cond-true, cond-false}
+use Rattle.lists.proofs.Choices.{by-test, either}
 use Rattle.questions.specs.Outcome.{Outcome, accepted, refused}
 use Rattle.llc_rule.specs.Calls.{Call, start, tick_start, tick_end, request, frame, by_receipt, tl_data, tl_unitdata, report, release, Request, parsed}
 use Rattle.llc_rule.specs.Ranges.{steals}
@@ -31,10 +33,10 @@ is_taking (frees i) = false
 is_taking stays = false
 
 pub takes-nothing : {G : Type 0} (x : Holding) → is_taking x ≡ false → (r : Request) → x ≡ takes r → G
-takes-nothing x n r e = clash (ap is_taking e) n
+takes-nothing x n r e = clash _ (ap is_taking e) n
 
 not-taking : {G : Type 0} (v : Event) (r : Request) → to_take v ≡ stays → v ≡ ordered r → G
-not-taking v r n q = clash (ap (λ (x : Event). is_taking (to_take x)) q) (ap is_taking n)
+not-taking v r n q = clash _ (ap (λ (x : Event). is_taking (to_take x)) q) (ap is_taking n)
 
 spelled-takes : (o : Outcome Call) (r : Request) → event o ≡ ordered r → (about_read o).to_holding ≡ takes r
 spelled-takes (refused n) r q = not-taking other r refl q
@@ -43,8 +45,8 @@ spelled-takes (accepted (tick_start time)) r q = not-taking (ticked time) r refl
 spelled-takes (accepted tick_end) r q = not-taking tick_ended r refl q
 spelled-takes (accepted (request tl_data s)) r q =
     by-test (eqb s.type 1 && not (steals s))
-    (λ z. ap to_take (sym (if-true (ordered s) other z) ∙ q))
-    (λ z. not-taking other r refl (sym (if-false (ordered s) other z) ∙ q))
+    (λ z. ap to_take (sym (cond-true _ (ordered s) other z) ∙ q))
+    (λ z. not-taking other r refl (sym (cond-false _ (ordered s) other z) ∙ q))
 spelled-takes (accepted (request tl_unitdata s)) r q = not-taking other r refl q
 spelled-takes (accepted (frame f)) r q = not-taking other r refl q
 spelled-takes (accepted (by_receipt i (report how))) r q = not-taking (reported_on i how) r refl q
@@ -55,8 +57,8 @@ pub ordered-takes : (e : Exchange) (r : Request) → event_in e ≡ ordered r �
 unfolding event_in done_to about
 ordered-takes e r ev =
     by-test (eqb e.number 0)
-    (λ z. rw z (spelled-takes (parsed e.call) r (sym (if-true (event (parsed e.call)) other z) ∙ ev)))
-    (λ z. not-taking other r refl (sym (if-false (event (parsed e.call)) other z) ∙ ev))
+    (λ z. rw z (spelled-takes (parsed e.call) r (sym (cond-true _ (event (parsed e.call)) other z) ∙ ev)))
+    (λ z. not-taking other r refl (sym (cond-false _ (event (parsed e.call)) other z) ∙ ev))
 
 -- A call that takes a receipt is an order or none of the others.
 abbrev pub takes_only : Event → Bool
@@ -95,7 +97,7 @@ taking-event e r t = subst (Takes (event_in e)) t (taking e)
 pub request-takes : (e : Exchange) (r : Request) → e.number ≡ 0 → request_spelled e.call ≡ some r → done_to e ≡ takes r
 unfolding done_to
 request-takes e r n t =
-    if-true (about e.call).to_holding stays (eq-eqb e.number 0 n) ∙ takes-for (about e.call).to_holding r t
+    cond-true _ (about e.call).to_holding stays (eq-eqb e.number 0 n) ∙ takes-for (about e.call).to_holding r t
 
 -- A tick end does nothing to holding, and is one of those that are in every past.
 pub record Ticking (e : Exchange) : Type 0 where
@@ -106,7 +108,7 @@ abbrev IsTick : Outcome Call → Type 0
 IsTick o = ((about_read o).to_holding ≡ stays) × (is_tick_end o ≡ true)
 
 not-ticking : {G : Type 0} (v : Event) → is_tick_ended v ≡ false → v ≡ tick_ended → G
-not-ticking v n q = clash (ap is_tick_ended q) n
+not-ticking v n q = clash _ (ap is_tick_ended q) n
 
 spelled-tick : (o : Outcome Call) → event o ≡ tick_ended → IsTick o
 spelled-tick (refused n) q = not-ticking other refl q
@@ -125,9 +127,9 @@ unfolding event_in done_to about
 ticking e ev =
     by-test (eqb e.number 0)
     (λ z.
-    let t = spelled-tick (parsed e.call) (sym (if-true (event (parsed e.call)) other z) ∙ ev) in
-    record { stays = if-true _ _ z ∙ t.0; filtered = t.1 })
-    (λ z. not-ticking other refl (sym (if-false (event (parsed e.call)) other z) ∙ ev))
+    let t = spelled-tick (parsed e.call) (sym (cond-true _ (event (parsed e.call)) other z) ∙ ev) in
+    record { stays = cond-true _ _ _ z ∙ t.0; filtered = t.1 })
+    (λ z. not-ticking other refl (sym (cond-false _ (event (parsed e.call)) other z) ∙ ev))
 
 -- What a call outside the past of address a can be: neither a start nor a tick, and about other receipts than those that a holds.
 abbrev pub OutsideEvent : ℕ → Holders → Event → Type 0
@@ -144,7 +146,7 @@ OutsideHolding a h (takes r) = eqb r.ssi a ≡ false
 OutsideHolding a h (frees j) = is_holder a (h j) ≡ false
 OutsideHolding a h stays = Unit {0}
 
-not-holder : (a : ℕ) (o : Option ℕ) → concerns a (holder's o) ≡ false → is_holder a o ≡ false
+pub not-holder : (a : ℕ) (o : Option ℕ) → concerns a (holder's o) ≡ false → is_holder a o ≡ false
 not-holder a none e = refl
 not-holder a (some b) e = e
 

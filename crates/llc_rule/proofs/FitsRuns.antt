@@ -8,9 +8,10 @@ use mathlib.Core.List.{List, [], ◌∷◌, map}
 use mathlib.Core.Option.{none, some}
 use borrow.Author.Tests.{leb-true, ltb-true}
 use lib.Dec.{eqb, leb}
+use Rattle.std.proofs.lemmas.Bool.{and_parts, cond_both}
 use Rattle.lists.specs.Lists.{All}
 use Rattle.lists.proofs.Lists.{all_append}
-use Rattle.lists.proofs.Choices.{both, either, by-choice}
+use Rattle.lists.proofs.Choices.{either}
 use Rattle.questions.specs.Outcome.{accepted}
 use Rattle.llc_pdus.specs.declared.Pdu.{Pdu}
 use Rattle.llc_pdus.specs.declared.Pdu.TheVariants.{BlAdata, BlData, BlUdata, BlAck}
@@ -112,7 +113,7 @@ fits-step l h c a = held-step _ _ _ l h c (λ d e. call-brings d (call_fits c a 
 
 -- A slot that steals.
 slot-at-most : (t : ℕ) → steals_slot t ≡ true → t ≤ 4
-slot-at-most t h = leb-true t 4 (both {x = leb 2 t} h).1
+slot-at-most t h = leb-true t 4 (and_parts (leb 2 t) _ h).1
 
 -- A reply: its mask has bit t - 1 of a slot t up to 4.
 reply-fits : (d : Due) → FitsDue d → Fits (reply_to d)
@@ -123,11 +124,11 @@ reply-fits d h =
       type = h.type;
       carrier = h.carrier;
       link =
-          by-choice (λ (n : ℕ). n < 2 ^ 32) (steals_slot d.slot)
+          cond_both (steals_slot d.slot) _ _ (λ (n : ℕ). n < 2 ^ 32)
           (λ t. omega (arith, slot-at-most d.slot t))
           (λ f. omega arith);
       mask =
-          by-choice FitsMask (steals_slot d.slot)
+          cond_both (steals_slot d.slot) _ _ FitsMask
           (λ t.
           let k = slot-at-most d.slot t in
           omega (arith, pow-le-pow_right {n = 2} (omega arith) {i = d.slot - 1} {j = 3} (omega arith)))

@@ -8,9 +8,10 @@ use mathlib.Core.List.{List, [], ◌∷◌}
 use mathlib.Core.Option.{Option, none, some}
 use lib.Dec.{eqb}
 use lib.ListN.{length}
+use Rattle.std.proofs.lemmas.Bool.{or_parts}
 use Rattle.lists.specs.Lists.{keep, any, All}
 use Rattle.lists.proofs.Lists.{all_map, none-counted}
-use Rattle.lists.proofs.Choices.{by-test, neither}
+use Rattle.lists.proofs.Choices.{by-test}
 use Rattle.tx_receipt.specs.declared.TxState.{TxState}
 use Rattle.tx_receipt.specs.declared.TxState.TheVariants.{Pending, Discarded, Transmitted, Lost, Acknowledged}
 use Rattle.llc_pdus.specs.declared.Pdu.{Pdu}
@@ -106,7 +107,7 @@ pub none-mine : (i : ℕ) (ms : List Message) → any (is_of i) ms ≡ false →
 unfolding any keep
 none-mine i [] e = refl
 none-mine i (m ∷ ms) e =
-    let n = neither {x = is_of i m} {y = any (is_of i) ms} e in rw n.0 (none-mine i ms n.1)
+    let n = or_parts (is_of i m) (any (is_of i) ms) e in rw n.0 (none-mine i ms n.1)
 
 pub free-mine : (h : Holders) (ps : List Place) (i : ℕ) (ms : List Message) → All (λ (m : Message). Owned h ps m.sent) ms → is_free (place_at ps i) ≡ true → mine i ms ≡ []
 unfolding keep

@@ -5,12 +5,14 @@ use mathlib.Core.Path.{◌≡◌, ◌∙◌, refl, sym, ap, subst}
 use mathlib.Core.Bool.{Bool, true, false, not, ◌&&◌, true≢false, false≢true}
 use mathlib.Core.List.{List, [], ◌∷◌, ◌++◌, append-nil}
 use mathlib.Core.Option.{Option, none, some, some-injective, none-ne-some}
+use borrow.Author.Clash.{clash}
 use borrow.Author.Tests.{eqb-true, eqb-false, eq-eqb, not-true}
 use lib.Dec.{eqb}
 use lib.ListN.{length, set}
+use Rattle.std.proofs.lemmas.Bool.{cond_both, and_parts, or_parts, cond-true, cond-false, and_from}
 use Rattle.lists.specs.Lists.{keep, any, Found, nothing, first, others, All}
 use Rattle.lists.proofs.Lists.{keep-yes, keep-no, keep_append, count_yes, count-front, Split, FoundBy, find-by}
-use Rattle.lists.proofs.Choices.{by-test, by-choice, either, both, neither, clash, if-true, if-false, and-true}
+use Rattle.lists.proofs.Choices.{by-test, either}
 use Rattle.questions.specs.Outcome.{accepted, refused, number}
 use Rattle.tx_receipt.specs.States.{is, final}
 use Rattle.tx_receipt.specs.Marks as Marks
@@ -109,17 +111,17 @@ numbered-finishable f ns nr (first m ms) l = refl
 -- A receipt that is Pending was not reported on, and its message is not gone.
 pending-by : (o : Option ℕ) → taken? (is Pending) (taken (record { expects_ack = true; state = report_state o })) ≡ true → o ≡ none
 pending-by none e = refl
-pending-by (some how) e = by-test (eqb how 1) (λ z. clash e (rw z)) (λ z. clash e (rw z))
+pending-by (some how) e = by-test (eqb how 1) (λ z. clash _ e (rw z)) (λ z. clash _ e (rw z))
 
 pending-unreported : (u : Watch) (m : Message) (p : Place) → Held u m p → taken? (is Pending) p ≡ true → u.report ≡ none
 pending-unreported u m p g e = pending-by u.report (sym (ap (taken? (is Pending)) g.place) ∙ e)
 
 gone-pending : {G : Type 0} (u : Watch) (r : TxReceipt) (s : TxState) → r.state ≡ s → GoneAs u s → is Pending r ≡ true → G
 gone-pending u r Pending e g p = absurd g
-gone-pending u r Discarded e g p = clash p (rw e)
+gone-pending u r Discarded e g p = clash _ p (rw e)
 gone-pending u r Transmitted e g p = absurd g
-gone-pending u r Lost e g p = clash p (rw e)
-gone-pending u r Acknowledged e g p = clash p (rw e)
+gone-pending u r Lost e g p = clash _ p (rw e)
+gone-pending u r Acknowledged e g p = clash _ p (rw e)
 
 gone-unreportable : {G : Type 0} (u : Watch) (p : Place) → Gone u p → taken? (is Pending) p ≡ true → G
 gone-unreportable u p g e = gone-pending u g.receipt g.receipt.state refl g.how (sym (ap (taken? (is Pending)) g.taken) ∙ e)
@@ -136,23 +138,23 @@ all-submitted : (i : ℕ) (ms : List Message) → any (λ (m : Message). eqb m.s
 unfolding any keep
 all-submitted i [] e = tt
 all-submitted i (m ∷ ms) e =
-    let n = neither {x = is_of i m && not m.submitted} e in
+    let n = or_parts (is_of i m && not m.submitted) _ e in
     let rest = all-submitted i ms n.1 in
     by-test (is_of i m)
-    (λ o. rw o (by-test m.submitted (λ s. s) (λ s. clash (and-true o (ap not s)) n.0), rest))
+    (λ o. rw o (by-test m.submitted (λ s. s) (λ s. clash _ (and_from _ _ o (ap not s)) n.0), rest))
     (λ o. rw o rest)
 
 -- A report on this receipt, and on another.
 reported-any : (i : ℕ) (k : Clock) (j how : ℕ) (w : Option Watch) → eqb j i ≡ true → if_any (goes_on i k (reported_on j how) []) w ≡ if_any (reported_as how) w
 reported-any i k j how none e = refl
-reported-any i k j how (some u) e = ap some (if-true (reported_as how u) u e)
+reported-any i k j how (some u) e = ap some (cond-true _ (reported_as how u) u e)
 
 reported-other : (i : ℕ) (k : Clock) (j how : ℕ) (w : Option Watch) → eqb j i ≡ false → if_any (goes_on i k (reported_on j how) []) w ≡ w
 reported-other i k j how none e = refl
-reported-other i k j how (some u) e = ap some (if-false (reported_as how u) u e)
+reported-other i k j how (some u) e = ap some (cond-false _ (reported_as how u) u e)
 
 reports-another : {G : Type 0} (i j how n : ℕ) → eqb j i ≡ false → reported_on j how ≡ reported_on i n → G
-reports-another i j how n e q = clash (eq-eqb j i (ap on_receipt q)) e
+reports-another i j how n e q = clash _ (eq-eqb j i (ap on_receipt q)) e
   where
     on_receipt : Event → ℕ
     on_receipt (started t251) = 0
@@ -184,7 +186,7 @@ positive n e = omega (arith, e)
 
 -- A request off the acknowledged path is no order.
 off-event : (s : Service) (r : Request) → off_path s r ≡ true → event (accepted (request s r)) ≡ other
-off-event tl_data r e = if-false (ordered r) other (not-true (on_acknowledged_path r) e)
+off-event tl_data r e = cond-false _ (ordered r) other (not-true (on_acknowledged_path r) e)
 off-event tl_unitdata r e = refl
 
 -- What a call is to the receipt: it is as it should be, and what the link has follows.
@@ -290,7 +292,7 @@ module _ (h : Holders) (l : Link) (sound : Sound h l) (i : ℕ) (k : Clock) (w :
   begun v r l' p f mine-is clock begin follows =
       let new-watch = asking r (is_order v) in
       let is : watched_by i k v (takes r) [] w ≡ some new-watch =
-      ap (if_any (goes_on i k v [])) (if-true (some new-watch) w mine-is) ∙ plain-same i k v [] (some new-watch) p in
+      ap (if_any (goes_on i k v [])) (cond-true _ (some new-watch) w mine-is) ∙ plain-same i k v [] (some new-watch) p in
       record {
         good = good-plain i k v (takes r) w p (untaken r f);
         at =
@@ -324,7 +326,7 @@ module _ (h : Holders) (l : Link) (sound : Sound h l) (i : ℕ) (k : Clock) (w :
           header = data_pdu r ns (due_for r l);
           what = refl;
           same = tt;
-          place = placed ∙ if-true (pending true) place e;
+          place = placed ∙ cond-true _ (pending true) place e;
           done = refl;
           over = refl;
           few = omega arith;
@@ -336,11 +338,11 @@ module _ (h : Holders) (l : Link) (sound : Sound h l) (i : ℕ) (k : Clock) (w :
         refl,
       )))
       (λ e.
-      unchanged (ordered r) (takes r) (with_acknowledged r l) refl (if-false _ w e) (untaken r q.free) a.clock a.started
+      unchanged (ordered r) (takes r) (with_acknowledged r l) refl (cond-false _ _ w e) (untaken r q.free) a.clock a.started
       (keep_append (is_of i) l.acknowledged (m ∷ [])
       ∙ ap (λ (x : List Message). mine i l.acknowledged ++ x) (keep-no (is_of i) m [] (turned i r.receipt false e))
       ∙ append-nil (mine i l.acknowledged))
-      (placed ∙ if-false (pending true) place e))
+      (placed ∙ cond-false _ (pending true) place e))
 
   next-unacknowledged :
       (r : Request) (link : ℕ) (p : Pdu) (ds : List Due)
@@ -356,8 +358,8 @@ module _ (h : Holders) (l : Link) (sound : Sound h l) (i : ℕ) (k : Clock) (w :
       begun other r (with_unacknowledged r link p ds l) refl f e a.clock a.started
       (ap (λ (j : ℕ). mine j l.acknowledged) (eqb-true i r.receipt e) ∙ none-mine-free r f, refl))
       (λ e.
-      unchanged other (takes r) (with_unacknowledged r link p ds l) refl (if-false _ w e) (untaken r f) a.clock a.started refl
-      (placed ∙ if-false (pending false) place e))
+      unchanged other (takes r) (with_unacknowledged r link p ds l) refl (cond-false _ _ w e) (untaken r f) a.clock a.started refl
+      (placed ∙ cond-false _ (pending false) place e))
 
   -- Frames -------------------------------------------------------------------------------------------------------------------
 
@@ -398,14 +400,14 @@ module _ (h : Holders) (l : Link) (sound : Sound h l) (i : ℕ) (k : Clock) (w :
     unfolding answered_by
     answered-by-kept p nr nothing z may = follows
     answered-by-kept p nr (first m ms) z may =
-        by-choice Kept (fits nr m)
+        cond_both (fits nr m) _ _ Kept
         (λ f.
         by-test (is_of i m)
         (λ e.
         let o = own-answered p m ms z e in
         let lets : taken? (allowed Marks.acknowledged) (place_at l'.receipts m.sent.receipt) ≡ true = rw f at may in
         let there : place_at (mark Marks.acknowledged m.sent.receipt l'.receipts) i ≡ marked Marks.acknowledged (place_at l'.receipts i) =
-        place-mark Marks.acknowledged l'.receipts m.sent.receipt i ∙ if-true _ _ (turned m.sent.receipt i true e) in
+        place-mark Marks.acknowledged l'.receipts m.sent.receipt i ∙ cond-true _ _ _ (turned m.sent.receipt i true e) in
         subst (λ (x : List Message). FollowsBy w x (place_at (mark Marks.acknowledged m.sent.receipt l'.receipts) i)) (sym o.0)
         (subst (FollowsBy w []) (sym there)
         (finished-follows w m (place_at l'.receipts i)
@@ -413,7 +415,7 @@ module _ (h : Holders) (l : Link) (sound : Sound h l) (i : ℕ) (k : Clock) (w :
         (subst (λ (j : ℕ). taken? (allowed Marks.acknowledged) (place_at l'.receipts j) ≡ true) (eqb-true m.sent.receipt i e) lets))))
         (λ e.
         let there : place_at (mark Marks.acknowledged m.sent.receipt l'.receipts) i ≡ place_at l'.receipts i =
-        place-mark Marks.acknowledged l'.receipts m.sent.receipt i ∙ if-false _ _ (turned m.sent.receipt i false e) in
+        place-mark Marks.acknowledged l'.receipts m.sent.receipt i ∙ cond-false _ _ _ (turned m.sent.receipt i false e) in
         subst (λ (x : List Message). FollowsBy w x (place_at (mark Marks.acknowledged m.sent.receipt l'.receipts) i)) (sym (other-answered p m ms z e))
         (subst (FollowsBy w (mine i l'.acknowledged)) (sym there) follows)))
         (λ f.
@@ -479,7 +481,7 @@ module _ (h : Holders) (l : Link) (sound : Sound h l) (i : ℕ) (k : Clock) (w :
           done = g.done ∙ g.unnoted none_yet;
           over = g.over;
           few = g.few;
-          waits = λ e. clash sub e;
+          waits = λ e. clash _ sub e;
           count = g.count;
           unnoted = λ e. absurd (none-ne-some how (sym e));
           value = λ o e. subst (λ (x : ℕ). is_value x ≡ true) (some-injective how o e) value;
@@ -489,7 +491,7 @@ module _ (h : Holders) (l : Link) (sound : Sound h l) (i : ℕ) (k : Clock) (w :
     unfolding waits
     submitted-mine =
         all-submitted i l.acknowledged
-        (neither {x = any (λ (m : Message). eqb m.sent.receipt i && not m.submitted) l.acknowledged} unwaiting).0
+        (or_parts (any (λ (m : Message). eqb m.sent.receipt i && not m.submitted) l.acknowledged) _ unwaiting).0
 
     report-order :
         (u : Watch) (ms : List Message)
@@ -531,7 +533,7 @@ module _ (h : Holders) (l : Link) (sound : Sound h l) (i : ℕ) (k : Clock) (w :
       → Next i k w (reported_on j how) stays [] (with_receipts l (mark (mark_of how) j l.receipts))
   unfolding handed
   next-reported j how value may =
-      let asked = both {x = taken? (is Pending) (place_at l.receipts j)} may in
+      let asked = and_parts (taken? (is Pending) (place_at l.receipts j)) _ may in
       by-test (eqb j i)
       (λ e.
       let j-is = eqb-true j i e in
@@ -540,7 +542,7 @@ module _ (h : Holders) (l : Link) (sound : Sound h l) (i : ℕ) (k : Clock) (w :
       let x = reported-next how value pending-is unwaiting w refl a.fine a.follows in
       let is : if_any (goes_on i k (reported_on j how) []) w ≡ if_any (reported_as how) w = reported-any i k j how w e in
       let there : place_at (mark (mark_of how) j l.receipts) i ≡ marked (mark_of how) place =
-      place-mark (mark_of how) l.receipts j i ∙ if-true _ _ (turned j i true e) in
+      place-mark (mark_of how) l.receipts j i ∙ cond-true _ _ _ (turned j i true e) in
       record {
         good = subst (λ (n : ℕ). GoodBy i k w (reported_on n how) stays []) (sym j-is) x.0;
         at =
@@ -556,7 +558,7 @@ module _ (h : Holders) (l : Link) (sound : Sound h l) (i : ℕ) (k : Clock) (w :
       (λ e.
       let is : if_any (goes_on i k (reported_on j how) []) w ≡ w = reported-other i k j how w e in
       let there : place_at (mark (mark_of how) j l.receipts) i ≡ place =
-      place-mark (mark_of how) l.receipts j i ∙ if-false _ _ (turned j i false e) in
+      place-mark (mark_of how) l.receipts j i ∙ cond-false _ _ _ (turned j i false e) in
       record {
         good = good-other i k j how w e;
         at =
@@ -575,8 +577,8 @@ module _ (h : Holders) (l : Link) (sound : Sound h l) (i : ℕ) (k : Clock) (w :
   next-released j unheld =
       by-test (eqb i j)
       (λ e.
-      let is : watched_by i k other (frees j) [] w ≡ none = ap (if_any (goes_on i k other [])) (if-true none w e) in
-      let gone = (neither {x = any (λ (m : Message). eqb m.sent.receipt j) l.acknowledged} unheld).0 in
+      let is : watched_by i k other (frees j) [] w ≡ none = ap (if_any (goes_on i k other [])) (cond-true _ none w e) in
+      let gone = (or_parts (any (λ (m : Message). eqb m.sent.receipt j) l.acknowledged) _ unheld).0 in
       record {
         good = good-plain i k other (frees j) w refl (λ u q r t. takes-nothing (frees j) refl r t);
         at =
@@ -590,7 +592,7 @@ module _ (h : Holders) (l : Link) (sound : Sound h l) (i : ℕ) (k : Clock) (w :
             };
       })
       (λ e.
-      unchanged other (frees j) (with_receipts l (set l.receipts j free)) refl (if-false none w e) (λ u q r t. takes-nothing (frees j) refl r t)
+      unchanged other (frees j) (with_receipts l (set l.receipts j free)) refl (cond-false _ none w e) (λ u q r t. takes-nothing (frees j) refl r t)
       a.clock a.started refl (place_other l.receipts j i free e))
 
   -- A tick end -----------------------------------------------------------------------------------------------------------------
@@ -709,16 +711,16 @@ module _ (h : Holders) (l : Link) (sound : Sound h l) (i : ℕ) (k : Clock) (w :
         tick_end = λ p. next-tick-end (a.started p.started);
         acknowledged =
             λ r q p.
-            subst (λ (v : Event). Next i k w v (takes r) [] (with_acknowledged r l)) (sym (if-true (ordered r) other q.path))
+            subst (λ (v : Event). Next i k w v (takes r) [] (with_acknowledged r l)) (sym (cond-true _ (ordered r) other q.path))
             (next-acknowledged r q);
         unacknowledged =
             λ s r link p used q z.
             subst (λ (v : Event). Next i k w v (takes r) [] (with_unacknowledged r link p (others used l.due) l)) (sym (off-event s r q.path))
             (next-unacknowledged r link p _ q.range q.free);
         heard = λ f r q p. next-heard f r q;
-        reported = λ j how q p. next-reported j how (both {x = is_receipt j} p.range).1 q.may;
+        reported = λ j how q p. next-reported j how (and_parts (is_receipt j) _ p.range).1 q.may;
         released =
-            λ j q p. next-released j (not-true (held j l) (both {x = taken? final (place_at l.receipts j)} q.may).1);
+            λ j q p. next-released j (not-true (held j l) (and_parts (taken? final (place_at l.receipts j)) _ q.may).1);
       }
 
   -- An exchange, and what the link has after it.
@@ -739,7 +741,7 @@ module _ (h : Holders) (l : Link) (sound : Sound h l) (i : ℕ) (k : Clock) (w :
   next-step c =
       step-law l _ next-paths c (λ o. o ≡ step l c → Stepped (exchange c o) (left l o))
       (λ n q is.
-      stepped_by other stays (exchange {S = Link} c (refused n)) l (if-false (event (parsed c)) other (not-accepted n q)) (done_refused c n [] q)
+      stepped_by other stays (exchange {S = Link} c (refused n)) l (cond-false _ (event (parsed c)) other (not-accepted n q)) (done_refused c n [] q)
       (unchanged other stays l refl refl (λ u e r t. takes-nothing stays refl r t) a.clock a.started refl refl))
       (λ d o e p is.
       stepped_by (event (accepted d)) (about_call d).to_holding (exchange c (accepted o)) o.state (ap event e) (done-accepted c d o.records e)

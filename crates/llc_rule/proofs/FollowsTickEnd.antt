@@ -5,13 +5,15 @@ use mathlib.Core.Path.{◌≡◌, ◌∙◌, refl, sym, ap, ap₂, subst}
 use mathlib.Core.Bool.{Bool, true, false, cond, not, ◌&&◌, ◌||◌, true≢false}
 use mathlib.Core.List.{List, [], ◌∷◌, ◌++◌, append-nil}
 use mathlib.Core.Option.{Option, none, some, none-ne-some}
+use borrow.Author.Clash.{clash}
 use borrow.Author.Tests.{eqb-true, ltb-true, ltb-false, lt-leb}
 use lib.Dec.{eqb, ltb}
 use lib.IntN.{ℤ}
 use lib.ListN.{length, length-append}
+use Rattle.std.proofs.lemmas.Bool.{cond_both, cond-true, cond-false, and_from, and_right}
 use Rattle.lists.specs.Lists.{keep, among, Visit, walk, All}
 use Rattle.lists.proofs.Lists.{keep-yes, keep-no, keep_append, all_append}
-use Rattle.lists.proofs.Choices.{by-test, by-choice, clash, if-true, if-false, either, and-true, and-false}
+use Rattle.lists.proofs.Choices.{by-test, either}
 use Rattle.tdma_time.specs.declared.TdmaTime.{TdmaTime}
 use Rattle.tdma_time.proofs.Laws.{minus-self}
 use Rattle.tx_receipt.specs.Marks as Marks
@@ -141,10 +143,10 @@ module _
 
 module _ (i : ℕ) (ps : List Place) (m : Message) where
   own-marked : (t : Mark) → is_of i m ≡ true → place_at (mark t m.sent.receipt ps) i ≡ marked t (place_at ps i)
-  own-marked t e = place-mark t ps m.sent.receipt i ∙ if-true (marked t (place_at ps i)) (place_at ps i) (turned m.sent.receipt i true e)
+  own-marked t e = place-mark t ps m.sent.receipt i ∙ cond-true _ (marked t (place_at ps i)) (place_at ps i) (turned m.sent.receipt i true e)
 
   other-marked : (t : Mark) → is_of i m ≡ false → place_at (mark t m.sent.receipt ps) i ≡ place_at ps i
-  other-marked t e = place-mark t ps m.sent.receipt i ∙ if-false (marked t (place_at ps i)) (place_at ps i) (turned m.sent.receipt i false e)
+  other-marked t e = place-mark t ps m.sent.receipt i ∙ cond-false _ (marked t (place_at ps i)) (place_at ps i) (turned m.sent.receipt i false e)
 
   -- It stays as n, is handed down and stays as n, or leaves.
   own-stays : (n : Message) → is_of i n ≡ true → Seen i (n ∷ []) [] (place_at ps i) (n ∷ []) [] (place_at ps i)
@@ -160,7 +162,7 @@ module _ (i : ℕ) (ps : List Place) (m : Message) where
   own-sent n e =
       record {
         stays = keep-yes (is_of i) (submitted_after n m) [] e;
-        out = if-true (m.sent ∷ []) [] e;
+        out = cond-true _ (m.sent ∷ []) [] e;
         place = own-marked Marks.reset e;
       }
 
@@ -183,7 +185,7 @@ module _ (i : ℕ) (ps : List Place) (m : Message) where
   other-sent n e =
       record {
         stays = keep-no (is_of i) (submitted_after n m) [] e;
-        out = if-false (m.sent ∷ []) [] e;
+        out = cond-false _ (m.sent ∷ []) [] e;
         place = other-marked Marks.reset e;
       }
 
@@ -196,7 +198,7 @@ module _ (time : TdmaTime) (t251 : ℕ) (ps : List Place) (m : Message) where
   visit-unreported : m.done ≡ none → taken? reported (place_at ps m.sent.receipt) ≡ false → retransmission time t251 ps m ≡ stay ps m
   unfolding retransmission
   visit-unreported d r =
-      ap (λ (n : Message). aged_by time t251 ps n n.done) (if-false (done_at time m) m (and-false (not (has_time m.done)) r))
+      ap (λ (n : Message). aged_by time t251 ps n n.done) (cond-false _ (done_at time m) m (and_right (not (has_time m.done)) _ r))
       ∙ ap (aged_by time t251 ps m) d
 
   visit-reported :
@@ -206,13 +208,13 @@ module _ (time : TdmaTime) (t251 : ℕ) (ps : List Place) (m : Message) where
   unfolding retransmission
   visit-reported d r =
       ap (λ (n : Message). aged_by time t251 ps n n.done)
-      (if-true (done_at time m) m (and-true (ap (λ (o : Option TdmaTime). not (has_time o)) d) r))
+      (cond-true _ (done_at time m) m (and_from _ _ (ap (λ (o : Option TdmaTime). not (has_time o)) d) r))
 
   visit-noted : (t : TdmaTime) → m.done ≡ some t → retransmission time t251 ps m ≡ aged_by time t251 ps m (some t)
   unfolding retransmission
   visit-noted t d =
       ap (λ (n : Message). aged_by time t251 ps n n.done)
-      (if-false (done_at time m) m
+      (cond-false _ (done_at time m) m
       (ap (λ (o : Option TdmaTime). not (has_time o) && taken? reported (place_at ps m.sent.receipt)) d))
       ∙ ap (aged_by time t251 ps m) d
 
@@ -353,7 +355,7 @@ held-noted w m p how t h sub rep =
       done = refl;
       over = h.over;
       few = h.few;
-      waits = λ s. clash sub s;
+      waits = λ s. clash _ sub s;
       count = h.count;
       unnoted = λ e. absurd (none-ne-some how (sym e ∙ rep));
       value = h.value;
@@ -470,9 +472,9 @@ module _ (i : ℕ) (k : Clock) (w : Watch) (m : Message) (ps : List Place) (h : 
 
     noted-visit : (how : ℕ) (done : TdmaTime) → w.report ≡ some how → w.noted ≡ some done → Resent i k w (aged_by k.time k.t251 ps m (some done))
     noted-visit how done r n =
-        by-choice (Resent i k w) (overdue k.time k.t251 done)
+        cond_both (overdue k.time k.t251 done) _ _ (Resent i k w)
         (λ o.
-        by-choice (Resent i k w) (ltb m.resends 3)
+        cond_both (ltb m.resends 3) _ _ (Resent i k w)
         (λ e. due-again done n o (ltb-true m.resends 3 e))
         (λ e. due-leaves how done r n o (ltb-false m.resends 3 e)))
         (λ o. stays-as m (over_by false w) own sub (aged-noted k w done false n o) (held-undue w m (place_at ps i) h))
@@ -482,7 +484,7 @@ module _ (i : ℕ) (k : Clock) (w : Watch) (m : Message) (ps : List Place) (h : 
         subst (Resent i k w)
         (sym
         (visit-reported k.time k.t251 ps m (h.done ∙ n) (ap (taken? reported) (at_place (some how) r) ∙ reported-place how)
-        ∙ if-false _ _ (undue-now k some-slots)))
+        ∙ cond-false _ _ _ (undue-now k some-slots)))
         (stays-as (done_at k.time m) (noted_at k.time w) own sub (aged-reported k w how n r) (held-noted w m (place_at ps i) how k.time h sub r))
     reported-visit how (some done) r n =
         subst (Resent i k w) (sym (visit-noted k.time k.t251 ps m done (h.done ∙ n))) (noted-visit how done r n)
@@ -508,7 +510,7 @@ module _ (i : ℕ) (s : Sending) (m : Message) (own : is_of i m ≡ true) where
   submitted-stays : m.submitted ≡ true → SeenFirst (first_sending s m) (m ∷ []) [] (place_at s.receipts i)
   unfolding first_sending
   submitted-stays sub =
-      subst (λ (v : Visit Sending Message Record). SeenFirst v (m ∷ []) [] (place_at s.receipts i)) (sym (if-true _ _ sub))
+      subst (λ (v : Visit Sending Message Record). SeenFirst v (m ∷ []) [] (place_at s.receipts i)) (sym (cond-true _ _ _ sub))
       (own-stays i s.receipts m m own)
 
   -- It goes on waiting, or is handed down for the first time.
@@ -520,7 +522,7 @@ module _ (i : ℕ) (s : Sending) (m : Message) (own : is_of i m ≡ true) where
       → SeenOne i P (first_sending s m)
   unfolding first_sending
   waiting-goes P sub as-was sent =
-      subst (SeenOne i P) (sym (if-false _ _ sub))
+      subst (SeenOne i P) (sym (cond-false _ _ _ sub))
       (either (SeenOne i P) (among m.sent.ssi s.blocked)
       (record { ns = m ∷ []; hs = []; q = place_at s.receipts i; seen = own-stays i s.receipts m m own; so = as-was })
       (record {

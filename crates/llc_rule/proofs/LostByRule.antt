@@ -5,11 +5,13 @@ use mathlib.Core.Path.{◌≡◌, ◌∙◌, refl, sym, ap, ap₂, subst}
 use mathlib.Core.Bool.{Bool, true, false, cond, false≢true}
 use mathlib.Core.List.{List, [], ◌∷◌, map}
 use mathlib.Core.Option.{Option, none, some, none-ne-some}
+use borrow.Author.Clash.{clash}
 use borrow.Author.Tests.{eqb-true, ne_eqb}
 use lib.Dec.{eqb}
+use Rattle.std.proofs.lemmas.Bool.{cond_both, cond-true, cond-false}
 use Rattle.lists.specs.Lists.{keep, All}
 use Rattle.lists.proofs.Lists.{all_map, all_back}
-use Rattle.lists.proofs.Choices.{by-test, by-choice, clash, if-true, if-false}
+use Rattle.lists.proofs.Choices.{by-test}
 use Rattle.questions.specs.Outcome.{number}
 use Rattle.llc_pdus.specs.declared.Pdu.{Pdu}
 use Rattle.llc_rule.specs.Calls.{Request, parsed}
@@ -107,12 +109,12 @@ module _ (i a : ℕ) (e : Exchange) where
   -- Of a tick end an address sees its own records, of another call of its past all.
   filtered : is_tick_end (parsed e.call) ≡ true → handed i (sight a e).records ≡ handed i (keep (to i a) e.records)
   unfolding sight
-  filtered t = ap (handed i) (if-true _ _ t)
+  filtered t = ap (handed i) (cond-true _ _ _ t)
 
   silent-seen : handed i e.records ≡ [] → handed i (sight a e).records ≡ []
   unfolding sight
   silent-seen n =
-      by-choice (λ (rs : List Record). handed i rs ≡ []) (is_tick_end (parsed e.call))
+      cond_both (is_tick_end (parsed e.call)) _ _ (λ (rs : List Record). handed i rs ≡ [])
       (λ t. handed-others i a e.records (subst (All (λ (s : Sent). eqb s.ssi a ≡ false)) (sym n) tt))
       (λ t. n)
 
@@ -155,10 +157,6 @@ seen-event : (a : ℕ) (e : Exchange) → event_in (seen_by a e) ≡ event_in e
 unfolding event_in sight
 seen-event a e = refl
 
-seen_done : (a : ℕ) (e : Exchange) → done_to (seen_by a e) ≡ done_to e
-unfolding done_to sight
-seen_done a e = refl
-
 -- One exchange ----------------------------------------------------------------------------------------------------------------
 
 nobody-watched : (w : Option Watch) → holder_is w ≡ none → w ≡ none
@@ -173,17 +171,14 @@ module _ (a i : ℕ) (h : Holders) (k : Clock) (w : Option Watch) (e : Exchange)
   held_then : holder_is then ≡ holders e h i
   held_then = sym (holder-next i k h w e holder)
 
-  kept-owner : is_holder a (holders e h i) ≡ true → of_owner a then ≡ then
-  kept-owner t = if-true then none (ap (is_holder a) held_then ∙ t)
-
   no-owner : is_holder a (holders e h i) ≡ false → of_owner a then ≡ none
-  no-owner t = if-false then none (ap (is_holder a) held_then ∙ t)
+  no-owner t = cond-false _ then none (ap (is_holder a) held_then ∙ t)
 
   -- Outside its past nothing is read of what it holds, and it takes nothing.
   outside-holds : is_holder a (h i) ≡ false → (x : Holding) → OutsideHolding a h x → is_holder a (taken_by (λ (r : Request). r.ssi) x h i) ≡ false
   outside-holds n empties o = absurd o
-  outside-holds n (takes r) o = by-choice (λ (z : Option ℕ). is_holder a z ≡ false) (eqb i r.receipt) (λ t. o) (λ t. n)
-  outside-holds n (frees j) o = by-choice (λ (z : Option ℕ). is_holder a z ≡ false) (eqb i j) (λ t. refl) (λ t. n)
+  outside-holds n (takes r) o = cond_both (eqb i r.receipt) _ _ (λ (z : Option ℕ). is_holder a z ≡ false) (λ t. o) (λ t. n)
+  outside-holds n (frees j) o = cond_both (eqb i j) _ _ (λ (z : Option ℕ). is_holder a z ≡ false) (λ t. refl) (λ t. n)
   outside-holds n stays o = n
 
   outside-goes : (u : Watch) (v : Event) (ss : List Sent) → is_holder a (h i) ≡ true → OutsideEvent a h v → goes_on i k v ss u ≡ u
@@ -192,7 +187,7 @@ module _ (a i : ℕ) (h : Holders) (k : Clock) (w : Option Watch) (e : Exchange)
   outside-goes u tick_ended ss y o = absurd o
   outside-goes u (ordered r) ss y o = refl
   outside-goes u (reported_on j how) ss y o =
-      if-false _ u (ne_eqb j i (λ q. clash y (ap (λ (n : ℕ). is_holder a (h n)) (sym q) ∙ o)))
+      cond-false _ _ u (ne_eqb j i (λ q. clash _ y (ap (λ (n : ℕ). is_holder a (h n)) (sym q) ∙ o)))
   outside-goes u other ss y o = refl
 
   outside-keeps :
@@ -202,9 +197,9 @@ module _ (a i : ℕ) (h : Holders) (k : Clock) (w : Option Watch) (e : Exchange)
       → ((r : Request) → x ≡ takes r → eqb i r.receipt ≡ false)
       → taken_by (λ (r : Request). asking r b) x (λ j. some u) i ≡ some u
   outside-keeps u b empties y o untaken = absurd o
-  outside-keeps u b (takes r) y o untaken = if-false _ (some u) (untaken r refl)
+  outside-keeps u b (takes r) y o untaken = cond-false _ _ (some u) (untaken r refl)
   outside-keeps u b (frees j) y o untaken =
-      if-false none (some u) (ne_eqb i j (λ q. clash y (ap (λ (n : ℕ). is_holder a (h n)) q ∙ o)))
+      cond-false _ none (some u) (ne_eqb i j (λ q. clash _ y (ap (λ (n : ℕ). is_holder a (h n)) q ∙ o)))
   outside-keeps u b stays y o untaken = refl
 
   outside-clock : (v : Event) → OutsideEvent a h v → clock_next k v ≡ k
@@ -236,7 +231,7 @@ module _ (a i : ℕ) (h : Holders) (k : Clock) (w : Option Watch) (e : Exchange)
       by-test (is_holder a (h i))
       (λ y. ap (of_owner a) (outside-same w refl good y o.0 o.1))
       (λ y.
-      no-owner (outside-holds y (done_to e) o.1) ∙ sym (if-false w none (ap (is_holder a) (sym holder) ∙ y)))
+      no-owner (outside-holds y (done_to e) o.1) ∙ sym (cond-false _ w none (ap (is_holder a) (sym holder) ∙ y)))
 
   -- Of its past the same is read.
   inside-kept :
@@ -246,22 +241,22 @@ module _ (a i : ℕ) (h : Holders) (k : Clock) (w : Option Watch) (e : Exchange)
       → holder_is z ≡ taken_by (λ (r : Request). r.ssi) x h i
       → of_owner a z ≡ z
   inside-kept z empties y untaken is = ap (of_owner a) (nobody-watched z is) ∙ sym (nobody-watched z is)
-  inside-kept z (takes r) y untaken is = if-true z none (ap (is_holder a) (is ∙ if-false _ (h i) (untaken r refl)) ∙ y)
+  inside-kept z (takes r) y untaken is = cond-true _ z none (ap (is_holder a) (is ∙ cond-false _ _ (h i) (untaken r refl)) ∙ y)
   inside-kept z (frees j) y untaken is =
       by-test (eqb i j)
-      (λ t. let n = nobody-watched z (is ∙ if-true none (h i) t) in ap (of_owner a) n ∙ sym n)
-      (λ t. if-true z none (ap (is_holder a) (is ∙ if-false none (h i) t) ∙ y))
-  inside-kept z stays y untaken is = if-true z none (ap (is_holder a) is ∙ y)
+      (λ t. let n = nobody-watched z (is ∙ cond-true _ none (h i) t) in ap (of_owner a) n ∙ sym n)
+      (λ t. cond-true _ z none (ap (is_holder a) (is ∙ cond-false _ none (h i) t) ∙ y))
+  inside-kept z stays y untaken is = cond-true _ z none (ap (is_holder a) is ∙ y)
 
   inside-takes : (r : Request) → in_past a h e ≡ true → done_to e ≡ takes r → eqb r.ssi a ≡ true
   unfolding done_to whose
   inside-takes r p t =
       by-test (eqb e.number 0)
       (λ z.
-      let about-is : (about e.call).to_holding ≡ takes r = sym (if-true (about e.call).to_holding stays z) ∙ t in
+      let about-is : (about e.call).to_holding ≡ takes r = sym (cond-true _ (about e.call).to_holding stays z) ∙ t in
       let whom-is = subst (Agree (about e.call).whom) about-is (agree e.call) in
       sym (ap (λ (x : Whom). concerns a (whose_of h x)) whom-is) ∙ concerned a h e p)
-      (λ z. takes-nothing stays refl r (sym (if-false (about e.call).to_holding stays z) ∙ t))
+      (λ z. takes-nothing stays refl r (sym (cond-false _ (about e.call).to_holding stays z) ∙ t))
 
   -- A receipt that it does not hold: it takes it, or nothing is read.
   inside-new :
@@ -278,22 +273,22 @@ module _ (a i : ℕ) (h : Holders) (k : Clock) (w : Option Watch) (e : Exchange)
       (λ t.
       let u = asking r (is_order v) in
       let one : watched_by i k v (takes r) hs none ≡ some u =
-      ap (if_any (goes_on i k v hs)) (if-true (some u) none t) ∙ ap some (goes-taken i k u v hs (taking r refl)) in
+      ap (if_any (goes_on i k v hs)) (cond-true _ (some u) none t) ∙ ap some (goes-taken i k u v hs (taking r refl)) in
       let two : watched_by i k v (takes r) gs z ≡ some u =
-      ap (if_any (goes_on i k v gs)) (if-true (some u) z t) ∙ ap some (goes-taken i k u v gs (taking r refl)) in
-      one ∙ sym (ap (of_owner a) two ∙ if-true (some u) none (mine r refl)))
+      ap (if_any (goes_on i k v gs)) (cond-true _ (some u) z t) ∙ ap some (goes-taken i k u v gs (taking r refl)) in
+      one ∙ sym (ap (of_owner a) two ∙ cond-true _ (some u) none (mine r refl)))
       (λ t.
-      ap (if_any (goes_on i k v hs)) (if-false _ none t)
-      ∙ sym (if-false _ none (ap (is_holder a) (held ∙ if-false _ (h i) t) ∙ y)))
+      ap (if_any (goes_on i k v hs)) (cond-false _ _ none t)
+      ∙ sym (cond-false _ _ none (ap (is_holder a) (held ∙ cond-false _ _ (h i) t) ∙ y)))
   inside-new (frees j) v hs gs z y is taking mine held =
       by-test (eqb i j)
       (λ t.
-      ap (if_any (goes_on i k v hs)) (if-true none none t)
-      ∙ sym (if-false _ none (ap (is_holder a) (held ∙ if-true none (h i) t))))
+      ap (if_any (goes_on i k v hs)) (cond-true _ none none t)
+      ∙ sym (cond-false _ _ none (ap (is_holder a) (held ∙ cond-true _ none (h i) t))))
       (λ t.
-      ap (if_any (goes_on i k v hs)) (if-false none none t)
-      ∙ sym (if-false _ none (ap (is_holder a) (held ∙ if-false none (h i) t) ∙ y)))
-  inside-new stays v hs gs z y is taking mine held = sym (if-false _ none (ap (is_holder a) held ∙ y))
+      ap (if_any (goes_on i k v hs)) (cond-false _ none none t)
+      ∙ sym (cond-false _ _ none (ap (is_holder a) (held ∙ cond-false _ none (h i) t) ∙ y)))
+  inside-new stays v hs gs z y is taking mine held = sym (cond-false _ _ none (ap (is_holder a) held ∙ y))
 
   -- What is read, and that it is good.
   record Inside : Type 0 where
@@ -312,7 +307,7 @@ module _ (a i : ℕ) (h : Holders) (k : Clock) (w : Option Watch) (e : Exchange)
   unfolding watched holders sight event_in done_to
   inside-own none is y good fine next = absurd (false≢true y)
   inside-own (some u) is y good fine next =
-      let own-w : of_owner a w ≡ some u = ap (of_owner a) is ∙ if-true (some u) none y in
+      let own-w : of_owner a w ≡ some u = ap (of_owner a) is ∙ cond-true _ (some u) none y in
       let same = own-handed i a e k u good next y in
       let holds : is_holder a (h i) ≡ true = ap (is_holder a) (holder ∙ ap holder_is is) ∙ y in
       record {
@@ -334,7 +329,7 @@ module _ (a i : ℕ) (h : Holders) (k : Clock) (w : Option Watch) (e : Exchange)
   inside-other : is_holder a (holder_is w) ≡ false → GoodIn i k w e → Fine then → in_past a h e ≡ true → Inside
   unfolding watched holders sight event_in done_to
   inside-other y good next p =
-      let none-w : of_owner a w ≡ none = if-false w none y in
+      let none-w : of_owner a w ≡ none = cond-false _ w none y in
       record {
         watch =
             ap (watched i k (seen_by a e)) none-w
@@ -363,7 +358,7 @@ each-past :
     → Each i k w es
     → Each i k (of_owner a w) (map (seen_by a) (past_from a h es))
 unfolding past_from
-each-past a i h k w [] holder fine = by-choice Fine (is_holder a (holder_is w)) (λ y. fine) (λ y. tt)
+each-past a i h k w [] holder fine = cond_both (is_holder a (holder_is w)) _ _ Fine (λ y. fine) (λ y. tt)
 each-past a i h k w (e ∷ es) holder each =
     let ih = each-past a i (holders e h) (clock_next k (event_in e)) (watched i k e w) es (holder-next i k h w e holder) each.1.1 in
     by-test (in_past a h e)
@@ -423,7 +418,7 @@ module _ (a i : ℕ) (h : Holders) (l : Link) (sound : Sound h l) (w : Option Wa
   end-own : End w (place_at l.receipts i) (is_held i l.acknowledged) → End (of_owner a w) (place_at (own a h l).receipts i) (is_held i (own a h l).acknowledged)
   unfolding own
   end-own end =
-      by-choice (λ (o : Option Watch). End o (place_at (blank a h l.receipts) i) (is_held i (of_address a l.acknowledged))) (is_holder a (holder_is w))
+      cond_both (is_holder a (holder_is w)) _ _ (λ (o : Option Watch). End o (place_at (blank a h l.receipts) i) (is_held i (of_address a l.acknowledged)))
       (λ y.
       let mine : is_holder a (h i) ≡ true = ap (is_holder a) holder ∙ y in
       subst (λ (p : Place). End w p (is_held i (of_address a l.acknowledged))) (sym (place-own a h l.receipts i mine))

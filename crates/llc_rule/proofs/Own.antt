@@ -5,13 +5,14 @@ use mathlib.Core.Path.{◌≡◌, ◌∙◌, refl, sym, ap}
 use mathlib.Core.Bool.{Bool, true, false, cond, ◌&&◌}
 use mathlib.Core.List.{List, [], ◌∷◌, ◌++◌, map}
 use mathlib.Core.Option.{Option}
+use borrow.Author.Clash.{clash}
 use borrow.Author.Tests.{eqb-true, eq-eqb}
 use lib.Dec.{eqb}
 use lib.ListN.{length, set, length-set}
 use lib.Seq.{ext_get_or}
 use Rattle.lists.specs.Lists.{keep, any, Found, nothing, first, behind, find, others, All}
 use Rattle.lists.proofs.Lists.{keep-yes, keep-no, keep_append, find-by, TakenOut, found-out}
-use Rattle.lists.proofs.Choices.{by-test, clash}
+use Rattle.lists.proofs.Choices.{by-test}
 use Rattle.lists.proofs.Tables.{first-filed, first-beside}
 use Rattle.questions.specs.Outcome.{Outcome, accepted, refused}
 use Rattle.tdma_time.specs.declared.TdmaTime.{TdmaTime}
@@ -237,4 +238,4 @@ module _ {A : Type 0} where
       (λ e. rw (e, any-keep mine p l f.1))
       (λ e.
       rw (e, any-keep mine p l f.1)
-      (by-test (p x) (λ t. clash (f.0 t) e) (λ t. rw t)))
+      (by-test (p x) (λ t. clash _ (f.0 t) e) (λ t. rw t)))

@@ -8,9 +8,10 @@ use mathlib.Core.List.{List, [], ◌∷◌, ◌++◌}
 use borrow.Author.Tests.{eqb-true, ne_eqb, leb-true, ltb-true}
 use lib.Dec.{eqb, leb}
 use lib.ListN.{length, get_or, drop, set}
+use Rattle.std.proofs.lemmas.Bool.{cond_both, and_parts}
 use Rattle.lists.specs.Lists.{all, any, among, Found, nothing, first, others}
 use Rattle.lists.proofs.Lists.{any_append, find-by, TakenOut, found-out}
-use Rattle.lists.proofs.Choices.{by-test, by-choice, either, both}
+use Rattle.lists.proofs.Choices.{by-test, either}
 use Rattle.questions.specs.Outcome.{Outcome, accepted, refused, number}
 use Rattle.questions.proofs.Asked.{by-question}
 use Rattle.tdma_time.specs.declared.TdmaTime.{TdmaTime}
@@ -65,15 +66,15 @@ unfolding all any
 among-all p [] n a e = absurd (false≢true e)
 among-all p (k ∷ l) n a e =
     by-test (eqb k n)
-    (λ q. rw (← eqb-true k n q) (both {x = p k} {y = all p l} a).0)
-    (λ q. among-all p l n (both {x = p k} {y = all p l} a).1 (rw q at e))
+    (λ q. rw (← eqb-true k n q) (and_parts (p k) (all p l) a).0)
+    (λ q. among-all p l n (and_parts (p k) (all p l) a).1 (rw q at e))
 
 abbrev is_number : ℕ → Bool
 is_number n = leb 2 n && leb n 16
 
 number_is : (n : ℕ) → is_number n ≡ true → Number n
 number_is n e =
-    let t = both {x = leb 2 n} {y = leb n 16} e in record { low = leb-true 2 n t.0; high = leb-true n 16 t.1 }
+    let t = and_parts (leb 2 n) (leb n 16) e in record { low = leb-true 2 n t.0; high = leb-true n 16 t.1 }
 
 asks-numbers : (c : Call) → all is_number (asks c) ≡ true
 unfolding all
@@ -236,14 +237,14 @@ module _ (l : Link) (P : Call → Link → List Record → Type 0) (paths : Path
   unfolding on_data due_for any
   data-law r Q if-refused if-accepted range =
       by-question Q 6 (receipt_free r l) (if-refused 6 refl) λ fr.
-      by-choice Q (on_acknowledged_path r)
+      cond_both (on_acknowledged_path r) _ _ Q
       (λ path.
       by-question Q 7 (row_for r.ssi l) (if-refused 7 refl) λ row.
       by-question Q 8 (acknowledged_place l) (if-refused 8 refl) λ place.
       if-accepted _ (paths.acknowledged r (record { range = range; path = path; free = fr; row = row; place = place })))
       (λ path.
       by-question Q 8 (unacknowledged_place l) (if-refused 8 refl) λ place.
-      by-choice (λ (k : Link). Q (accepted (done k []))) (steals r)
+      cond_both (steals r) _ _ (λ (k : Link). Q (accepted (done k [])))
       (λ s. stolen-law r Q if-accepted range (ap not path) fr place (due_for r l) (found-out _ l.due (due_for r l) (find-by _ l.due)))
       (λ s. stolen-law r Q if-accepted range (ap not path) fr place nothing tt))
 
@@ -305,7 +306,7 @@ module _ (l : Link) (P : Call → Link → List Record → Type 0) (paths : Path
   act-law (request tl_unitdata r) Q if-refused if-accepted range = unitdata-law r Q if-refused if-accepted range
   act-law (frame f) Q if-refused if-accepted range = heard-law f Q if-refused if-accepted range (received f.pdu) refl (received-asked f.pdu)
   act-law (by_receipt i a) Q if-refused if-accepted range =
-      action-law i a Q if-refused if-accepted (ltb-true i 128 (both {x = is_receipt i} {y = action_in_range a} range).0)
+      action-law i a Q if-refused if-accepted (ltb-true i 128 (and_parts (is_receipt i) (action_in_range a) range).0)
 
   called-law :
       (o : Outcome Call) (Q : Outcome (Done Link) → Type 0)

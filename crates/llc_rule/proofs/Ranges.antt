@@ -6,7 +6,8 @@ use mathlib.Core.Bool.{true, ◌||◌}
 use borrow.Author.Tests.{eqb-true, leb-true}
 use lib.Dec.{eqb, leb, ltb}
 use lib.ListN.{length}
-use Rattle.lists.proofs.Choices.{by-test, both}
+use Rattle.std.proofs.lemmas.Bool.{and_parts}
+use Rattle.lists.proofs.Choices.{by-test}
 use Rattle.llc_pdus.specs.Writes.{longest}
 use Rattle.llc_rule.specs.Limits.{longest_frame}
 use Rattle.llc_rule.specs.Calls.{Request, Frame}
@@ -24,14 +25,14 @@ pub record RequestFields (r : Request) : Type 0 where
 pub request-fields : (r : Request) → request_in_range r ≡ true → RequestFields r
 unfolding request_in_range
 request-fields r h =
-    let h₁ = both {y = leb (length r.sdu) longest} h in
-    let h₂ = both {y = leb (length r.block) 64} h₁.0 in
-    let h₃ = both {y = is_receipt r.receipt} h₂.0 in
-    let h₄ = both {y = has_mask r || eqb r.mask 0} h₃.0 in
-    let h₅ = both {y = ltb r.mask 16} h₄.0 in
-    let h₆ = both {y = ltb r.flags 8} h₅.0 in
-    let h₇ = both {y = eqb r.given 1 || eqb r.carrier 0} h₆.0 in
-    let h₈ = both {y = leb r.given 1} h₇.0 in
+    let h₁ = and_parts _ (leb (length r.sdu) longest) h in
+    let h₂ = and_parts _ (leb (length r.block) 64) h₁.0 in
+    let h₃ = and_parts _ (is_receipt r.receipt) h₂.0 in
+    let h₄ = and_parts _ (has_mask r || eqb r.mask 0) h₃.0 in
+    let h₅ = and_parts _ (ltb r.mask 16) h₄.0 in
+    let h₆ = and_parts _ (ltb r.flags 8) h₅.0 in
+    let h₇ = and_parts _ (eqb r.given 1 || eqb r.carrier 0) h₆.0 in
+    let h₈ = and_parts _ (leb r.given 1) h₇.0 in
     record { type = h₈.0; mask = h₅.1; given = h₄.1; receipt = h₃.1; block = h₂.1; sdu = h₁.1 }
 
 -- The fields of a frame.
@@ -43,8 +44,8 @@ pub record FrameFields (f : Frame) : Type 0 where
 pub frame-fields : (f : Frame) → frame_in_range f ≡ true → FrameFields f
 unfolding frame_in_range
 frame-fields f h =
-    let h₁ = both {y = leb (length f.pdu) longest_frame} h in
-    let h₂ = both {y = leb (length f.block) 64} h₁.0 in
+    let h₁ = and_parts _ (leb (length f.pdu) longest_frame) h in
+    let h₂ = and_parts _ (leb (length f.block) 64) h₁.0 in
     record { type = h₂.0; block = h₂.1; pdu = h₁.1 }
 
 -- A type is 1 or 2.

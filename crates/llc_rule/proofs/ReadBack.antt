@@ -7,9 +7,9 @@ use mathlib.Core.List.{List, [], ◌∷◌, ◌++◌, map}
 use mathlib.Core.Option.{Option, none, some}
 use borrow.Author.Tests.{eq-eqb, not-true}
 use lib.Dec.{eqb}
+use Rattle.std.proofs.lemmas.Bool.{and_parts, or_parts, cond-true, cond-false}
 use Rattle.lists.specs.Lists.{any, Found, nothing, first, All}
 use Rattle.lists.proofs.Lists.{all_append, all-unit, all_both, all_but}
-use Rattle.lists.proofs.Choices.{both, neither, if-true, if-false}
 use Rattle.tx_receipt.specs.States.{final}
 use Rattle.llc_pdus.specs.Headers.{has_fcs, ns_of, nr_of}
 use Rattle.llc_pdus.specs.Frames.{frame_bits}
@@ -64,14 +64,14 @@ module _ (h : Requests) where
   carries_own r carrier link p range flag =
       record {
         request = r;
-        holds = if-true (some r) (h r.receipt) (eq-eqb r.receipt r.receipt refl);
+        holds = cond-true _ (some r) (h r.receipt) (eq-eqb r.receipt r.receipt refl);
         reads = reads r p range flag;
       }
 
   -- What is done to another receipt leaves it.
   carries-other : (i : ℕ) (who : Option Request) (s : Sent) → eqb s.receipt i ≡ false → Carries h s → Carries (holding i who h) s
   carries-other i who s e c =
-      record { request = c.request; holds = if-false who (h s.receipt) e ∙ c.holds; reads = c.reads }
+      record { request = c.request; holds = cond-false _ who (h s.receipt) e ∙ c.holds; reads = c.reads }
 
   -- Replies, and what goes up.
   replies-read : (ds : List Due) → All (ReadBack h) (map reply_to ds)
@@ -178,7 +178,7 @@ module _ (hs : Holders) (h : Requests) (l : Link) (sound : Sound hs l) (a : AllC
   released-next : (i : ℕ) (ps : List Place) → held i l ≡ false → Next h (holding i none h) (with_receipts l ps) []
   unfolding held
   released-next i ps e =
-      let n = neither {x = any (λ (m : Message). eqb m.sent.receipt i) l.acknowledged} e in
+      let n = or_parts (any (λ (m : Message). eqb m.sent.receipt i) l.acknowledged) _ e in
       record {
         carry =
             record {
@@ -207,7 +207,7 @@ module _ (hs : Holders) (h : Requests) (l : Link) (sound : Sound hs l) (a : AllC
             record { carry = record { acknowledged = a.acknowledged; unacknowledged = a.unacknowledged }; records = tt };
         released =
             λ i q.
-            released-next i _ (not-true (held i l) (both {x = taken? final (place_at l.receipts i)} q.may).1);
+            released-next i _ (not-true (held i l) (and_parts (taken? final (place_at l.receipts i)) _ q.may).1);
       }
 
   next-step :

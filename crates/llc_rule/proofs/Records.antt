@@ -1,6 +1,6 @@
 -- The bytes of records: how they begin, how many they are, and that they determine the records.
 use Prim.Native.Nat.{ℕ, zero, suc, ◌+◌, ◌*◌, ◌/◌, ◌%◌, ◌^◌, ◌-◌, ◌≤◌, ◌<◌}
-use native.Mathlib.Nat.{pow-succ', one-le-pow, mod-eq_of_lt}
+use native.Mathlib.Nat.{pow-succ', one-le-pow, mod-eq_of_lt, ne_of_gt}
 use native.Mathlib.Omega.{arith}
 use mathlib.Core.Path.{◌≡◌, ◌∙◌, refl, sym, ap, ap₂}
 use mathlib.Core.Logic.{◌≢◌}
@@ -12,8 +12,8 @@ use lib.ListN.{length, take, drop, get_or, replicate, length-append, length-drop
 use lib.Seq.{take_at, take-take, take-add, length-take-le}
 use Rattle.lists.specs.Lists.{All}
 use Rattle.lists.proofs.Lists.{append-cancel}
-use Rattle.bits.specs.Bits.{value, to_bits, AllBits}
-use Rattle.bits.proofs.Laws.{to_bits-value, all_take, all_drop, all_append}
+use Rattle.bits.specs.Bits.{AllBits}
+use Rattle.bits.proofs.Laws.{all_take, all_drop, all_append, value-determines}
 use Rattle.bits.proofs.Bytes.{all-zeros}
 use Rattle.llc_pdus.specs.Headers.{bit}
 use Rattle.llc_pdus.specs.Writes.{longest_sent}
@@ -60,10 +60,6 @@ pub length-packed : (n : ℕ) (l : List ℕ) → length (packed n l) ≡ n
 unfolding packed
 length-packed zero l = refl
 length-packed (suc n) l = ap suc (length-packed n (drop 8 l))
-
--- A number determines the bits that spell it, if it is known how many they are.
-pub value-determines : (p q : List ℕ) → AllBits p → AllBits q → length p ≡ length q → value p ≡ value q → p ≡ q
-value-determines p q bp bq n e = sym (to_bits-value p bp) ∙ ap₂ to_bits n e ∙ to_bits-value q bq
 
 -- n bytes of bits determine the first 8 n bits.
 packed-determine :
@@ -204,7 +200,7 @@ peel-mask tag (some m) (some n) r s x y h fm fn e =
 abbrev in_counted : List ℕ → List ℕ
 in_counted l = to_bytes 2 (length l) ++ pack l
 
-length-pack : (l : List ℕ) → length (pack l) ≡ (length l + 7) / 8
+pub length-pack : (l : List ℕ) → length (pack l) ≡ (length l + 7) / 8
 length-pack l = length-packed ((length l + 7) / 8) (l ++ replicate 7 0)
 
 length-in_counted : (l : List ℕ) → length (in_counted l) ≡ 2 + (length l + 7) / 8
@@ -250,9 +246,6 @@ last-bits-if-any (a ∷ p) (b ∷ q) x y fp fq bx by e = last-bits (a ∷ p) (b 
 
 -- A record's bytes determine it -------------------------------------------------------------------------------------------
 
-other_tag : (a b : ℕ) → a < b → b ≢ a
-other_tag a b h e = omega arith
-
 sent-determined :
     (k : ℕ) (s t : Sent) (x y : List ℕ)
     → FitsSent s
@@ -269,7 +262,7 @@ sent-determined k s t x y fs ft e =
     let c6 = peel-number 0x06 4 s.endpoint t.endpoint _ _ x y fs.endpoint ft.endpoint c5.1 in
     let c7 = peel-number 0x07 4 s.handle t.handle _ _ x y fs.handle ft.handle c6.1 in
     let c8 = peel-flag 0x08 s.steal t.steal _ _ x y c7.1 in
-    let c9 = peel-mask 0x0A s.mask t.mask _ _ x y (other_tag 0x09 0x0A (omega arith)) fs.mask ft.mask c8.1 in
+    let c9 = peel-mask 0x0A s.mask t.mask _ _ x y (ne_of_gt (omega arith)) fs.mask ft.mask c8.1 in
     let c_a = peel-number 0x0A 1 s.receipt t.receipt _ _ x y fs.receipt ft.receipt c9.1 in
     let c_b = peel-field 0x0B s.block t.block _ _ x y fs.block ft.block c_a.1 in
     let c_c = last-bits s.pdu t.pdu x y fs.pdu ft.pdu c_b.1 in (
@@ -301,7 +294,7 @@ reply-determined s t x y fs ft e =
     let c6 = peel-even 0x06 (to_bytes 4 0) (to_bytes 4 0) _ _ x y refl c5.1 in
     let c7 = peel-even 0x07 (to_bytes 4 0) (to_bytes 4 0) _ _ x y refl c6.1 in
     let c8 = peel-flag 0x08 s.steal t.steal _ _ x y c7.1 in
-    let c9 = peel-mask 0x0C s.mask t.mask _ _ x y (other_tag 0x09 0x0C (omega arith)) fs.mask ft.mask c8.1 in
+    let c9 = peel-mask 0x0C s.mask t.mask _ _ x y (ne_of_gt (omega arith)) fs.mask ft.mask c8.1 in
     let c_c = last-bits s.pdu t.pdu x y fs.pdu ft.pdu c9.1 in (
       λ i. record {
         ssi = c2.0 i;

@@ -5,10 +5,12 @@ use mathlib.Core.Path.{◌≡◌, ◌∙◌, refl, sym, ap, subst}
 use mathlib.Core.Bool.{Bool, true, false, cond, not, false≢true}
 use mathlib.Core.List.{List, [], ◌∷◌, ◌++◌, append_assoc}
 use mathlib.Core.Option.{Option, none, some}
+use borrow.Author.Clash.{clash}
 use borrow.Author.Tests.{eqb-true, eq-eqb, ne_eqb}
 use lib.Dec.{eqb}
+use Rattle.std.proofs.lemmas.Bool.{and_parts}
 use Rattle.lists.specs.Lists.{all, Found, nothing, first, first_or}
-use Rattle.lists.proofs.Choices.{by-test, either, both, clash}
+use Rattle.lists.proofs.Choices.{by-test, either}
 use Rattle.questions.specs.Outcome.{Outcome, accepted}
 use Rattle.llc_pdus.specs.Headers.{ns_of, nr_of}
 use Rattle.llc_pdus.specs.Frames.{frame_bits}
@@ -199,15 +201,15 @@ not_last false = refl
 
 -- What is accepted between changes nothing, if it is neither a start nor a frame with N(S) from the address.
 last-neither : (a : ℕ) (last : Option Bool) (h : Hearing) → is_neither a h ≡ true → last_next a last h ≡ last
-last-neither a last begins e = clash e refl
-last-neither a last (hears b ns sdu) e = by-test (eqb b a) (λ t. clash (rw t at e) refl) (λ t. rw t)
+last-neither a last begins e = clash _ e refl
+last-neither a last (hears b ns sdu) e = by-test (eqb b a) (λ t. clash _ (rw t at e) refl) (λ t. rw t)
 last-neither a last neither e = refl
 
 last_none : (a : ℕ) (last : Option Bool) (es : List Exchange) → none_from a es ≡ true → last_from a last es ≡ last
 unfolding last_from all
 last_none a last [] e = refl
 last_none a last (x ∷ es) e =
-    let t = both {x = is_neither a (heard_in x)} {y = none_from a es} e in
+    let t = and_parts (is_neither a (heard_in x)) (none_from a es) e in
     ap (λ (o : Option Bool). last_from a o es) (last-neither a last (heard_in x) t.0) ∙ last_none a last es t.1
 
 last-append : (a : ℕ) (last : Option Bool) (es fs : List Exchange) → last_from a last (es ++ fs) ≡ last_from a (last_from a last es) fs

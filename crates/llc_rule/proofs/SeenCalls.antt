@@ -4,10 +4,12 @@ use mathlib.Core.Path.{◌≡◌, refl, sym, ap, subst}
 use mathlib.Core.Bool.{Bool, true, false, cond, not, false≢true}
 use mathlib.Core.List.{List, []}
 use mathlib.Core.Option.{Option, none, some}
+use borrow.Author.Clash.{clash}
 use borrow.Author.Tests.{eqb-true, ltb-true}
 use lib.ListN.{length}
+use Rattle.std.proofs.lemmas.Bool.{and_parts}
 use Rattle.lists.specs.Lists.{keep, any, among, first_or}
-use Rattle.lists.proofs.Choices.{by-test, both, clash}
+use Rattle.lists.proofs.Choices.{by-test}
 use Rattle.questions.specs.Outcome.{Outcome, accepted, refused, ask, number}
 use Rattle.questions.proofs.Asked.{by-question}
 use Rattle.llc_pdus.specs.declared.Pdu.TheVariants.{BlUdata}
@@ -21,10 +23,11 @@ use Rattle.llc_rule.specs.Messages.{no_receipts, mark_of}
 use Rattle.llc_rule.specs.Link.{Link, started_with}
 use Rattle.llc_rule.specs.Step.{receipt_free, row_for, acknowledged_place, unacknowledged_place, on_acknowledged_path, with_unacknowledged, row_for_frame, due_room, on_data, on_unitdata, on_received, on_frame, act}
 use Rattle.llc_rule.specs.Rule.{Own, after_start, after_data, after_unitdata, after_received, after_frame, does}
-use Rattle.llc_rule.specs.Past.{about_call, Holders, nobody, holding, is_holder, held_after, holder's, whose_of, concerns, is_tick_end}
+use Rattle.llc_rule.specs.Past.{about_call, Holders, nobody, holding, held_after, holder's, whose_of, concerns, is_tick_end}
 use Rattle.llc_rule.specs.Seen.{hindrances}
 use Rattle.llc_rule.specs.Sound.{Sound}
 use Rattle.llc_rule.proofs.Paths.{Paths}
+use Rattle.llc_rule.proofs.Events.{not-holder}
 use Rattle.llc_rule.proofs.Own.{of_ssi, blank_from, own, seen_as}
 use Rattle.llc_rule.proofs.SeenRequests.{after_data_link, data-own, unitdata-own, acknowledged-other, unacknowledged-other}
 use Rattle.llc_rule.proofs.SeenReceipts.{report-own, release-own, receipts-other, release_other}
@@ -124,10 +127,6 @@ holder-is : (a : ℕ) (w : Option ℕ) → concerns a (holder's w) ≡ true → 
 holder-is a none e = absurd (false≢true e)
 holder-is a (some b) e = ap some (eqb-true b a e)
 
-holder-not : (a : ℕ) (w : Option ℕ) → concerns a (holder's w) ≡ false → is_holder a w ≡ false
-holder-not a none e = refl
-holder-not a (some b) e = e
-
 receipt-in : (h : Holders) (l : Link) (i : ℕ) → Sound h l → i < 128 → i < length l.receipts
 receipt-in h l i ok lt = rw ok.limits.receipts lt
 
@@ -150,7 +149,7 @@ own-call a h l (request tl_unitdata q) ok w r u =
 own-call a h l (frame f) ok w r u = frame-by a h l f (received f.pdu) (eqb-true f.ssi a w) ok u
 own-call a h l (by_receipt i (report how)) ok w r u = report-own a i h l (holder-is a (h i) w) ok how
 own-call a h l (by_receipt i release) ok w r u =
-    release-own a i h l (holder-is a (h i) w) ok (receipt-in h l i ok (ltb-true i 128 (both {x = is_receipt i} r).0))
+    release-own a i h l (holder-is a (h i) w) ok (receipt-in h l i ok (ltb-true i 128 (and_parts (is_receipt i) _ r).0))
 
 -- A call outside an address's past changes nothing of it, and gives no record with its SSI.
 pub record Unchanged (a : ℕ) (h h' : Holders) (l k : Link) (rs : List Record) : Type 0 where
@@ -168,9 +167,9 @@ pub other-paths :
     (λ c k rs. concerns a (whose_of h (about_call c).whom) ≡ false → Unchanged a h (held_after (about_call c).to_holding h) l k rs)
 other-paths a h l ok =
     record {
-      start = λ carrier t251 w. clash refl w;
-      tick_start = λ time w. clash refl w;
-      tick_end = λ w. clash refl w;
+      start = λ carrier t251 w. clash _ refl w;
+      tick_start = λ time w. clash _ refl w;
+      tick_end = λ w. clash _ refl w;
       acknowledged =
           λ r k w. silently a h _ l _ (acknowledged-other a r h l k w (receipt-in h l r.receipt ok (receipt-within r k.range)));
       unacknowledged =
@@ -178,6 +177,6 @@ other-paths a h l ok =
           silently a h _ l _
           (unacknowledged-other a r h l link p used k w (receipt-in h l r.receipt ok (receipt-within r k.range)));
       heard = λ f r k w. record { same = heard-unseen a f h l w r k ok; silent = sent-up-other a f h l ok w r };
-      reported = λ i how k w. silently a h h l _ (receipts-other a i h l (holder-not a (h i) w) (mark_of how));
-      released = λ i k w. silently a h _ l _ (release_other a i h l (holder-not a (h i) w) (receipt-in h l i ok k.receipt));
+      reported = λ i how k w. silently a h h l _ (receipts-other a i h l (not-holder a (h i) w) (mark_of how));
+      released = λ i k w. silently a h _ l _ (release_other a i h l (not-holder a (h i) w) (receipt-in h l i ok k.receipt));
     }

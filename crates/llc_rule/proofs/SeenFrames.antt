@@ -6,9 +6,10 @@ use mathlib.Core.List.{List, [], ◌∷◌, ◌++◌, append-nil}
 use mathlib.Core.Option.{Option, none, some}
 use borrow.Author.Tests.{eq-eqb, eqb-true, not-true}
 use lib.Dec.{eqb}
+use Rattle.std.proofs.lemmas.Bool.{and_parts, or_parts, cond-true, cond-false, and_from, and_right}
 use Rattle.lists.specs.Lists.{keep, any, Found, nothing, first, behind, find, others, All}
 use Rattle.lists.proofs.Lists.{keep-yes, keep-no, keep_append, Split, FoundBy, find-by, all_back}
-use Rattle.lists.proofs.Choices.{by-test, both, neither, if-true, if-false, and-true, and-false}
+use Rattle.lists.proofs.Choices.{by-test}
 use Rattle.questions.specs.Outcome.{accepted}
 use Rattle.tx_receipt.specs.Marks as Marks
 use Rattle.llc_pdus.specs.declared.Pdu.{Pdu}
@@ -33,14 +34,14 @@ none_found : {A : Type 0} (p : A → Bool) (l : List A) → any p l ≡ false �
 unfolding find any
 none_found p [] e = refl
 none_found p (x ∷ l) e =
-    let n = neither {x = p x} {y = any p l} e in
+    let n = or_parts (p x) (any p l) e in
     rw (n.0, none_found p l n.1)
 
 none-of-both : {A : Type 0} (p q : A → Bool) (l : List A) → any q l ≡ false → any (λ (x : A). p x && q x) l ≡ false
 unfolding any
 none-of-both p q [] e = refl
 none-of-both p q (x ∷ l) e =
-    let n = neither {x = q x} {y = any q l} e in
+    let n = or_parts (q x) (any q l) e in
     rw (n.0, none-of-both p q l n.1) (by-test (p x) (λ t. rw t) (λ t. rw t))
 
 -- The one ahead, if it passes a test too.
@@ -65,16 +66,16 @@ found-ahead p (m ∷ ms) e =
     (λ u.
     by-test (p m)
     (λ t.
-    if-true x (behind m (find q ms)) (and-true t u)
-    ∙ sym (ap (heads p) (if-true x (behind m (find is_submitted ms)) u) ∙ if-true x nothing t))
+    cond-true _ x (behind m (find q ms)) (and_from _ _ t u)
+    ∙ sym (ap (heads p) (cond-true _ x (behind m (find is_submitted ms)) u) ∙ cond-true _ x nothing t))
     (λ t.
-    if-false {b = p m && m.submitted} x (behind m (find q ms)) (rw t)
+    cond-false (p m && m.submitted) x (behind m (find q ms)) (rw t)
     ∙ other-is
-    ∙ sym (ap (heads p) (if-true x (behind m (find is_submitted ms)) u) ∙ if-false x nothing t)))
+    ∙ sym (ap (heads p) (cond-true _ x (behind m (find is_submitted ms)) u) ∙ cond-false _ x nothing t)))
     (λ u.
-    if-false x (behind m (find q ms)) (and-false (p m) u)
+    cond-false _ x (behind m (find q ms)) (and_right (p m) _ u)
     ∙ other-is
-    ∙ sym (ap (heads p) (if-false x (behind m (find is_submitted ms)) u ∙ none_is)))
+    ∙ sym (ap (heads p) (cond-false _ x (behind m (find is_submitted ms)) u ∙ none_is)))
 
 -- And what is found is the first.
 ahead-first : (q : List Message) → one_ahead q ≡ true → (m : Message) (ms : List Message) → find is_submitted q ≡ first m ms → q ≡ m ∷ ms
@@ -83,10 +84,10 @@ ahead-first [] e m ms f = cc
 ahead-first (n ∷ ns) e m ms f =
     let rest = not-true (any is_submitted ns) e in
     by-test n.submitted
-    (λ t. let g : first n ns ≡ first m ms = sym (if-true (first n ns) (behind n (find is_submitted ns)) t) ∙ f in cc)
+    (λ t. let g : first n ns ≡ first m ms = sym (cond-true _ (first n ns) (behind n (find is_submitted ns)) t) ∙ f in cc)
     (λ t.
     let g : nothing ≡ first m ms =
-    sym (if-false (first n ns) (behind n (find is_submitted ns)) t ∙ ap (behind n) (none_found is_submitted ns rest)) ∙ f
+    sym (cond-false _ (first n ns) (behind n (find is_submitted ns)) t ∙ ap (behind n) (none_found is_submitted ns rest)) ∙ f
     in
     cc)
 
@@ -111,16 +112,16 @@ looked-at : (f : Frame) (x t : Found Message) → keep_found (to_ssi f) x ≡ he
 looked-at f nothing nothing e = no_one
 looked-at f nothing (first m ms) e =
     by-test (on_carrier f m)
-    (λ t. absurd (false≢true (ap is_found (e ∙ if-true (first m ms) nothing t))))
+    (λ t. absurd (false≢true (ap is_found (e ∙ cond-true _ (first m ms) nothing t))))
     (λ t. elsewhere m ms t)
 looked-at f (first n xs) nothing e = absurd (false≢true (ap is_found (sym e)))
 looked-at f (first n xs) (first m ms) e =
     by-test (on_carrier f m)
     (λ t.
-    let g : first n (keep (to_ssi f) xs) ≡ first m ms = e ∙ if-true (first m ms) nothing t in
+    let g : first n (keep (to_ssi f) xs) ≡ first m ms = e ∙ cond-true _ (first m ms) nothing t in
     let same : n ≡ m = cc in
     subst (Looked f (first n xs)) g (here n xs (ap (on_carrier f) same ∙ t)))
-    (λ t. absurd (false≢true (ap is_found (sym (e ∙ if-false (first m ms) nothing t)))))
+    (λ t. absurd (false≢true (ap is_found (sym (e ∙ cond-false _ (first m ms) nothing t)))))
 
 -- A repeat is one for the link and for the rule.
 repeat-by : (ns : Bool) (last : Option Bool) (up : List Record) → unless_repeated last (some ns) up ≡ cond (is_last ns last) [] up
@@ -148,7 +149,7 @@ module _ (f : Frame) (h : Holders) (l : Link) (ok : Sound h l) where
 
   -- It is of the frame's address, which holds its receipt.
   to-ssi : (m : Message) (xs : List Message) → awaiting f l ≡ first m xs → to_ssi f m ≡ true
-  to-ssi m xs e = (both (awaited m xs e).passes).0
+  to-ssi m xs e = (and_parts _ _ (awaited m xs e).passes).0
 
   is-holder : (m : Message) (xs : List Message) → awaiting f l ≡ first m xs → is_holder f.ssi (h m.sent.receipt) ≡ true
   is-holder m xs e =
@@ -209,14 +210,14 @@ module _ (f : Frame) (h : Holders) (l : Link) (ok : Sound h l) where
       let same-own : Own = own_with (of_address a l.acknowledged) (blank a h l.receipts) in
       by-test (fits nr m)
       (λ u.
-      ap (own a h) (if-true gone moved u)
+      ap (own a h) (cond-true _ gone moved u)
       ∙ own-with xs (mark Marks.acknowledged i l.receipts) (of_address a xs) (mark Marks.acknowledged i (blank a h l.receipts)) refl
       (blank-mark a h Marks.acknowledged i l.receipts (is-holder m xs e))
-      ∙ sym (if-true gone-own same-own (and-true c u)))
+      ∙ sym (cond-true _ gone-own same-own (and_from _ _ c u)))
       (λ u.
-      ap (own a h) (if-false gone moved u)
+      ap (own a h) (cond-false _ gone moved u)
       ∙ own-with (m ∷ xs) l.receipts (of_address a l.acknowledged) (blank a h l.receipts) was refl
-      ∙ sym (if-false gone-own same-own (and-false (on_carrier f m) u)))
+      ∙ sym (cond-false _ gone-own same-own (and_right (on_carrier f m) _ u)))
 
   heard-own : (x : Option Bool) → own f.ssi h (answered f x l) ≡ heard f x (own f.ssi h l)
   unfolding awaiting the_one
@@ -284,7 +285,7 @@ module _ (a : ℕ) (f : Frame) (h : Holders) (l : Link) (ok : Sound h l) (other 
   others-other m xs e =
       let p : Message → Bool = λ n. to_ssi f n && (on_carrier f n && n.submitted) in
       ap (λ (x : Found Message). of_address a (others x l.acknowledged)) (sym e)
-      ∙ keep-others (λ (n : Message). eqb n.sent.ssi a) p l.acknowledged (λ n t. not-to n (both t).0)
+      ∙ keep-others (λ (n : Message). eqb n.sent.ssi a) p l.acknowledged (λ n t. not-to n (and_parts _ _ t).0)
 
   same-with :
       (ms : List Message) (ps : List Place)
@@ -303,11 +304,11 @@ module _ (a : ℕ) (f : Frame) (h : Holders) (l : Link) (ok : Sound h l) (other 
       let moved : Link = acknowledged_now l (m ∷ xs) in
       by-test (fits nr m)
       (λ u.
-      ap (own a h) (if-true gone moved u)
+      ap (own a h) (cond-true _ gone moved u)
       ∙ same-with xs (mark Marks.acknowledged i l.receipts) (others-other m xs e)
       (blank-mark-other a h Marks.acknowledged i l.receipts (holder-other m xs e)))
       (λ u.
-      ap (own a h) (if-false gone moved u)
+      ap (own a h) (cond-false _ gone moved u)
       ∙ same-with (m ∷ xs) l.receipts
       (keep-no (λ (n : Message). eqb n.sent.ssi a) m xs (not-to m (to-ssi f h l ok m xs e)) ∙ others-other m xs e) refl)
 

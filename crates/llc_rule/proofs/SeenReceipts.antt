@@ -7,9 +7,10 @@ use mathlib.Core.Option.{none, some, some-injective}
 use borrow.Author.Tests.{eq-eqb, eqb-true}
 use lib.Dec.{eqb}
 use lib.ListN.{length, set}
+use Rattle.std.proofs.lemmas.Bool.{and_parts}
 use Rattle.lists.specs.Lists.{keep, any}
 use Rattle.lists.proofs.Lists.{all_map}
-use Rattle.lists.proofs.Choices.{by-test, both}
+use Rattle.lists.proofs.Choices.{by-test}
 use Rattle.tx_receipt.specs.Marks.{Mark}
 use Rattle.llc_rule.specs.Records.{Record, Sent}
 use Rattle.llc_rule.specs.Messages.{Message, Place, free, place_at, mark, mark_of}
@@ -49,7 +50,7 @@ module _ (a i : ℕ) (h : Holders) (l : Link) (who : h i ≡ some a) (ok : Sound
       l.acknowledged
       (all_map (λ (m : Message). Owned h l.receipts m.sent) (λ (m : Message). eqb m.sent.receipt i && not m.submitted ≡ true → eqb m.sent.ssi a ≡ true)
       l.acknowledged
-      (λ m o e. same-holder a i h l.receipts m.sent who o (both e).0) ok.owned))
+      (λ m o e. same-holder a i h l.receipts m.sent who o (and_parts _ _ e).0) ok.owned))
       unacknowledged-with
 
   pub held-own : still_held i (own a h l) ≡ held i l

@@ -7,9 +7,10 @@ use mathlib.Core.Option.{some}
 use borrow.Author.Tests.{eq-eqb, eqb-true}
 use lib.Dec.{eqb}
 use lib.ListN.{length, set}
+use Rattle.std.proofs.lemmas.Bool.{and_parts}
 use Rattle.lists.specs.Lists.{keep, Found, nothing, first, others}
 use Rattle.lists.proofs.Lists.{keep_append, find-by, TakenOut, found-out}
-use Rattle.lists.proofs.Choices.{by-test, both}
+use Rattle.lists.proofs.Choices.{by-test}
 use Rattle.llc_pdus.specs.declared.Pdu.{Pdu}
 use Rattle.llc_pdus.specs.declared.Pdu.TheVariants.{BlUdata, BlAck}
 use Rattle.llc_rule.specs.Calls.{Service, Request}
@@ -205,7 +206,7 @@ due-other :
     → eqb r.ssi a ≡ false
     → keep (due_to a) (others used l.due) ≡ keep (due_to a) l.due
 due-other a r l used t e =
-    keep_taken (due_to a) (is_due_for r l) l.due (λ d q. rw (eqb-true d.ssi r.ssi (both q).0) e) used t
+    keep_taken (due_to a) (is_due_for r l) l.due (λ d q. rw (eqb-true d.ssi r.ssi (and_parts _ _ q).0) e) used t
 
 message-other :
     (a : ℕ) (r : Request) (c k : ℕ) (p : Pdu) (ns : Bool) (ms : List Message)

@@ -6,9 +6,10 @@ use mathlib.Core.List.{List, [], ◌∷◌, ◌++◌, map}
 use mathlib.Core.Option.{Option, none, some}
 use borrow.Author.Tests.{eqb-true, not-true}
 use lib.Dec.{eqb, ltb}
+use Rattle.std.proofs.lemmas.Bool.{cond-true, cond-false, or_from, or_parts}
 use Rattle.lists.specs.Lists.{keep, any, among, Visit, ◌then◌, walk, All}
 use Rattle.lists.proofs.Lists.{keep-yes, keep-no, keep_append, all_map}
-use Rattle.lists.proofs.Choices.{by-test, either, ap-cond, if-true, if-false, neither}
+use Rattle.lists.proofs.Choices.{by-test, either, ap-cond}
 use Rattle.tdma_time.specs.declared.TdmaTime.{TdmaTime}
 use Rattle.tx_receipt.specs.Marks as Marks
 use Rattle.llc_rule.specs.Records.{Record, acknowledged, unacknowledged, Sent}
@@ -48,7 +49,7 @@ module _
             let ih : walk g (view v.state) (keep mine l) ≡ shown w = walk-seen l v.state q.1 in
             by-test (mine x)
             (λ e.
-            ap (walk g (view s)) (if-true (x ∷ keep mine l) (keep mine l) e)
+            ap (walk g (view s)) (cond-true _ (x ∷ keep mine l) (keep mine l) e)
             ∙ ap (λ (u : Visit T A R). ◌then◌ u (walk g u.state (keep mine l))) (of-own s x q.0 e)
             ∙ ap (◌then◌ (shown v)) ih
             ∙ (λ i.
@@ -65,7 +66,7 @@ module _
             let out : keep said w.out ≡ keep said (v.out ++ w.out) =
             sym (keep_append said v.out w.out ∙ ap (λ (t : List R). t ++ keep said w.out) u.out)
             in
-            ap (walk g (view s)) (if-false (x ∷ keep mine l) (keep mine l) e)
+            ap (walk g (view s)) (cond-false _ (x ∷ keep mine l) (keep mine l) e)
             ∙ ap (λ (t : T). walk g t (keep mine l)) (sym u.state)
             ∙ ih
             ∙ (λ i. record { state = view w.state; stays = stays i; out = out i }))
@@ -80,8 +81,8 @@ HeldBySsi h m = h m.sent.receipt ≡ some m.sent.ssi
 timed-sent : (time : TdmaTime) (ps : List Place) (m : Message) → (timed time ps m).sent ≡ m.sent
 timed-sent time ps m =
     by-test (not (has_time m.done) && taken? reported (place_at ps m.sent.receipt))
-    (λ e. ap (λ (x : Message). x.sent) (if-true (done_at time m) m e))
-    (λ e. ap (λ (x : Message). x.sent) (if-false (done_at time m) m e))
+    (λ e. ap (λ (x : Message). x.sent) (cond-true _ (done_at time m) m e))
+    (λ e. ap (λ (x : Message). x.sent) (cond-false _ (done_at time m) m e))
 
 -- The first pass: resends.
 module _ (a : ℕ) (h : Holders) (time : TdmaTime) (t251 : ℕ) where
@@ -319,9 +320,9 @@ all-wait :
 unfolding walk any own_sending
 all-wait ps [] e = refl
 all-wait ps (m ∷ ms) e =
-    let n = neither {x = m.submitted} {y = under_way ms} e in
+    let n = or_parts m.submitted (under_way ms) e in
     let s : OwnSending = record { receipts = ps; blocked = true } in
-    ap (λ (v : Visit OwnSending Message Record). ◌then◌ v (walk own_sending v.state ms)) (if-false (stay s m) (stay s m) n.0)
+    ap (λ (v : Visit OwnSending Message Record). ◌then◌ v (walk own_sending v.state ms)) (cond-false _ (stay s m) (stay s m) n.0)
     ∙ ap (◌then◌ (stay s m)) (all-wait ps ms n.1)
 
 -- With at most one under way, and that ahead, the walk submits the oldest that waits if none is under way.
@@ -343,9 +344,6 @@ submits-by {v} {v'} {w} {w'} e g s =
       out = ap (λ (x : Visit OwnSending Message Record). x.out) e ∙ s.out ∙ sym (ap (λ (x : Visit (List Place) Message Record). x.out) g);
     }
 
-none-too : {x y : Bool} → x ≡ false → y ≡ false → x || y ≡ false
-none-too e f = rw (e, f)
-
 submits : (ps : List Place) (ms : List Message) → one_ahead ms ≡ true → Submits (walk own_sending (record { receipts = ps; blocked = false }) ms) (submitted ps ms)
 unfolding walk submitted one_ahead own_sending any
 submits ps [] e = record { receipts = refl; stays = refl; out = refl }
@@ -365,13 +363,13 @@ submits ps (m ∷ ms) e =
     by-test m.submitted
     (λ u.
     submits-by
-    (ap onward (if-true going sending u) ∙ ap (◌then◌ going) (all-wait ps ms rest))
-    (if-true {b = m.submitted || under_way ms} kept (submit_oldest ps (m ∷ ms)) (ap (λ (b : Bool). b || under_way ms) u))
+    (ap onward (cond-true _ going sending u) ∙ ap (◌then◌ going) (all-wait ps ms rest))
+    (cond-true (m.submitted || under_way ms) kept (submit_oldest ps (m ∷ ms)) (ap (λ (b : Bool). b || under_way ms) u))
     (record { receipts = refl; stays = refl; out = refl }))
     (λ u.
     submits-by
-    (ap onward (if-false going sending u) ∙ ap (◌then◌ sending) (all-wait (mark Marks.reset m.sent.receipt ps) ms rest))
-    (if-false kept (submit_oldest ps (m ∷ ms)) (none-too u rest))
+    (ap onward (cond-false _ going sending u) ∙ ap (◌then◌ sending) (all-wait (mark Marks.reset m.sent.receipt ps) ms rest))
+    (cond-false _ kept (submit_oldest ps (m ∷ ms)) (or_from _ _ u rest))
     (record { receipts = refl; stays = refl; out = refl }))
 
 -- The whole tick end.

@@ -5,12 +5,13 @@ use mathlib.Core.Path.{◌≡◌, ◌∙◌, refl, sym, ap, subst}
 use mathlib.Core.Bool.{Bool, true, false, ◌||◌, true≢false, false≢true}
 use mathlib.Core.List.{List, [], ◌∷◌, ◌++◌}
 use mathlib.Core.Option.{Option, none, some, some-injective, none-ne-some}
+use borrow.Author.Clash.{clash}
 use borrow.Author.Tests.{eqb-true, not-true}
 use lib.Dec.{eqb}
 use lib.ListN.{set}
+use Rattle.std.proofs.lemmas.Bool.{cond_both, and_parts, or_parts, cond-false}
 use Rattle.lists.specs.Lists.{any, Found, nothing, first}
 use Rattle.lists.proofs.Lists.{any_append, append-cancel, FoundBy, find-by}
-use Rattle.lists.proofs.Choices.{by-choice, both, neither, clash, if-false}
 use Rattle.questions.specs.Outcome.{accepted, refused}
 use Rattle.tx_receipt.specs.States.{is, final}
 use Rattle.tx_receipt.specs.Marks as Marks
@@ -45,7 +46,7 @@ settled-taken free e = absurd (false≢true e)
 settled-taken (taken r) e = refl
 
 settled-state : (r : TxReceipt) (s : TxState) → r.state ≡ s → settled (taken r) ≡ true → is Pending r ≡ false
-settled-state r Pending q e = clash e (rw q)
+settled-state r Pending q e = clash _ e (rw q)
 settled-state r Discarded q e = rw q
 settled-state r Transmitted q e = rw q
 settled-state r Lost q e = rw q
@@ -87,7 +88,7 @@ module _ (h : Holders) (l : Link) (sound : Sound h l) where
             λ i e unheld s.
             ap (λ (ps : List Place). place_at ps i) is
             ∙ place_set l.receipts r.receipt i p (omega (arith, sound.limits.receipts, receipt-within r range))
-            ∙ if-false p (place_at l.receipts i)
+            ∙ cond-false _ p (place_at l.receipts i)
             (other_place l.receipts r.receipt i f (settled-taken (place_at l.receipts i) s));
       }
 
@@ -101,9 +102,9 @@ module _ (h : Holders) (l : Link) (sound : Sound h l) where
   answered-by-settles i k p nr nothing z unheld = refl
   answered-by-settles i k p nr (first m ms) z unheld =
       let there = sym (any_append (λ (n : Message). eqb n.sent.receipt i) z.front (m ∷ z.back)) ∙ subst (λ (x : List Message). is_held i x ≡ false) z.whole unheld in
-      let other = (neither {x = eqb m.sent.receipt i} (neither {x = is_held i z.front} there).1).0 in
-      by-choice (λ (n : Link). place_at n.receipts i ≡ place_at k.receipts i) (fits nr m)
-      (λ f. place-mark Marks.acknowledged k.receipts m.sent.receipt i ∙ if-false _ _ (turned m.sent.receipt i false other))
+      let other = (or_parts (eqb m.sent.receipt i) _ (or_parts (is_held i z.front) _ there).1).0 in
+      cond_both (fits nr m) _ _ (λ (n : Link). place_at n.receipts i ≡ place_at k.receipts i)
+      (λ f. place-mark Marks.acknowledged k.receipts m.sent.receipt i ∙ cond-false _ _ _ (turned m.sent.receipt i false other))
       (λ f. refl)
 
   answered-settles :
@@ -120,9 +121,9 @@ module _ (h : Holders) (l : Link) (sound : Sound h l) where
   reported-settles : (j how i : ℕ) → reportable j l ≡ true → settled (place_at l.receipts i) ≡ true → place_at (mark (mark_of how) j l.receipts) i ≡ place_at l.receipts i
   reported-settles j how i may s =
       place-mark (mark_of how) l.receipts j i
-      ∙ by-choice (λ (p : Place). p ≡ place_at l.receipts i) (eqb i j)
+      ∙ cond_both (eqb i j) _ _ (λ (p : Place). p ≡ place_at l.receipts i)
       (λ e.
-      clash (both {x = taken? (is Pending) (place_at l.receipts j)} may).0
+      clash _ (and_parts (taken? (is Pending) (place_at l.receipts j)) _ may).0
       (ap (λ (n : ℕ). taken? (is Pending) (place_at l.receipts n)) (sym (eqb-true i j e)) ∙ settled-reported (place_at l.receipts i) s))
       (λ e. refl)
 
@@ -155,12 +156,12 @@ module _ (h : Holders) (l : Link) (sound : Sound h l) where
             };
         released =
             λ j q.
-            let unheld = not-true (held j l) (both {x = taken? final (place_at l.receipts j)} q.may).1 in
+            let unheld = not-true (held j l) (and_parts (taken? final (place_at l.receipts j)) _ q.may).1 in
             record {
               released =
                   λ i e.
                   subst (λ (n : ℕ). is_held n l.acknowledged ≡ false) (some-injective j i e)
-                  (neither {x = is_held j l.acknowledged} unheld).0;
+                  (or_parts (is_held j l.acknowledged) _ unheld).0;
               stays = λ i e u s. place_other l.receipts j i free (turned j i false e);
             };
       }

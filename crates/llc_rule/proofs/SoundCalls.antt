@@ -8,9 +8,9 @@ use mathlib.Core.Option.{none}
 use borrow.Author.Tests.{ne_eqb, not-true}
 use lib.Dec.{eqb}
 use lib.ListN.{set, replicate, length-set, length-replicate}
+use Rattle.std.proofs.lemmas.Bool.{and_parts, or_parts}
 use Rattle.lists.specs.Lists.{keep, any}
 use Rattle.lists.proofs.Lists.{all_map, all_but}
-use Rattle.lists.proofs.Choices.{both, neither}
 use Rattle.questions.specs.Outcome.{accepted}
 use Rattle.tdma_time.specs.declared.TdmaTime.{TdmaTime}
 use Rattle.tx_receipt.specs.States.{is, final}
@@ -95,7 +95,7 @@ sound-marked :
     → Sound h (with_receipts l (mark t i l.receipts))
 unfolding waits
 sound-marked h l t i e s =
-    let n = neither {x = any (λ (m : Message). eqb m.sent.receipt i && not m.submitted) l.acknowledged} e in
+    let n = or_parts (any (λ (m : Message). eqb m.sent.receipt i && not m.submitted) l.acknowledged) _ e in
     record {
       limits = search length-set;
       owned = all_map _ _ l.acknowledged (λ m. owned-marked h l.receipts t i m.sent) s.owned;
@@ -121,7 +121,7 @@ sound-freed :
     → Sound (holding i none h) (with_receipts l (set l.receipts i free))
 unfolding held
 sound-freed h l i b e s =
-    let n = neither {x = any (λ (m : Message). eqb m.sent.receipt i) l.acknowledged} e in
+    let n = or_parts (any (λ (m : Message). eqb m.sent.receipt i) l.acknowledged) _ e in
     record {
       limits = search length-set;
       owned = all_but _ _ _ l.acknowledged (λ m. owned-other h l.receipts i none free m.sent) n.0 s.owned;
@@ -152,12 +152,12 @@ sound-paths h l s =
       reported =
           λ i how a.
           sound-marked h l (mark_of how) i
-          (not-true (waits i l) (both {x = taken? (is Pending) (place_at l.receipts i)} a.may).1)
+          (not-true (waits i l) (and_parts (taken? (is Pending) (place_at l.receipts i)) _ a.may).1)
           s;
       released =
           λ i a.
           sound-freed h l i a.receipt
-          (not-true (held i l) (both {x = taken? final (place_at l.receipts i)} a.may).1)
+          (not-true (held i l) (and_parts (taken? final (place_at l.receipts i)) _ a.may).1)
           s;
     }
 

@@ -8,9 +8,10 @@ use mathlib.Core.Option.{Option, none, some}
 use borrow.Author.Tests.{eq-eqb, ltb-true}
 use lib.Dec.{eqb}
 use lib.ListN.{length, length-append, length-set}
+use Rattle.std.proofs.lemmas.Bool.{and_parts}
 use Rattle.lists.specs.Lists.{any, Found, nothing, first, find}
 use Rattle.lists.proofs.Lists.{all_map, none-counted, FoundBy, find-by, count_yes, count-front, count_less, all_but, all_middle}
-use Rattle.lists.proofs.Choices.{by-test, both}
+use Rattle.lists.proofs.Choices.{by-test}
 use Rattle.tx_receipt.specs.Marks as Marks
 use Rattle.tx_receipt.specs.Marks.{Mark}
 use Rattle.llc_pdus.specs.Headers.{ns_of, nr_of}
@@ -128,7 +129,7 @@ sound-answered h l f (some nr) s =
     let p : Message → Bool =
     λ m. eqb m.sent.ssi f.ssi && (eqb m.sent.carrier f.carrier && m.submitted) in
     sound-answered-by h l p nr (find p l.acknowledged)
-    (λ m e. (both {x = eqb m.sent.carrier f.carrier} (both {x = eqb m.sent.ssi f.ssi} e).1).1)
+    (λ m e. (and_parts (eqb m.sent.carrier f.carrier) _ (and_parts (eqb m.sent.ssi f.ssi) _ e).1).1)
     (find-by p l.acknowledged)
     s
 

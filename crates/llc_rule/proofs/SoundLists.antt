@@ -4,12 +4,14 @@ use mathlib.Core.Path.{◌≡◌, ◌∙◌, refl, sym}
 use mathlib.Core.Bool.{Bool, true, false, ◌||◌}
 use mathlib.Core.List.{List, [], ◌∷◌, ◌++◌}
 use mathlib.Core.Option.{Option}
+use borrow.Author.Clash.{clash}
 use borrow.Author.Tests.{eqb-true, not-true}
 use lib.Dec.{eqb}
 use lib.ListN.{length, set}
+use Rattle.std.proofs.lemmas.Bool.{or_parts}
 use Rattle.lists.specs.Lists.{keep, any}
 use Rattle.lists.proofs.Lists.{keep-yes, keep-no, keep_append, any_append, get_or_set}
-use Rattle.lists.proofs.Choices.{by-test, neither, clash}
+use Rattle.lists.proofs.Choices.{by-test}
 use Rattle.tx_receipt.specs.States.{is}
 use Rattle.tx_receipt.specs.Marks.{Mark}
 use Rattle.tx_receipt.specs.declared.TxState.TheVariants.{Pending}
@@ -24,10 +26,10 @@ use Rattle.llc_rule.proofs.Places.{place_other, mark-free, mark-expects}
 
 -- A receipt whose place differs from another's is another receipt.
 pub other_place : (ps : List Place) (i j : ℕ) → is_free (place_at ps i) ≡ true → is_free (place_at ps j) ≡ false → eqb j i ≡ false
-other_place ps i j e f = by-test (eqb j i) (λ h. clash e (rw (eqb-true j i h) at f)) (λ h. h)
+other_place ps i j e f = by-test (eqb j i) (λ h. clash _ e (rw (eqb-true j i h) at f)) (λ h. h)
 
 pending-taken : (t : TxReceipt → Bool) (p : Place) → taken? t p ≡ true → is_free p ≡ false
-pending-taken t free h = clash h refl
+pending-taken t free h = clash _ h refl
 pending-taken t (taken r) h = refl
 
 pub other-pending : (ps : List Place) (i j : ℕ) → is_free (place_at ps i) ≡ true → IsPending ps j → eqb j i ≡ false
@@ -97,7 +99,7 @@ submitted_in ms = any (λ (n : Message). n.submitted) ms
 pub ahead-append : (l m : List Message) → submitted_in m ≡ false → one_ahead l ≡ true → one_ahead (l ++ m) ≡ true
 unfolding one_ahead any
 ahead-append [] [] e h = refl
-ahead-append [] (x ∷ m) e h = rw (neither {x = x.submitted} {y = submitted_in m} e).1
+ahead-append [] (x ∷ m) e h = rw (or_parts x.submitted (submitted_in m) e).1
 ahead-append (y ∷ l) m e h = rw (any_append (λ (n : Message). n.submitted) l m, e, not-true (submitted_in l) h)
 
 -- Nothing stands before a submitted message.
@@ -111,12 +113,12 @@ ahead-alone [] x m e h = refl
 ahead-alone (y ∷ l) x m e h =
     let n : submitted_in l || submitted_in (x ∷ m) ≡ false =
     sym (any_append (λ (n : Message). n.submitted) l (x ∷ m)) ∙ not-true (submitted_in (l ++ (x ∷ m))) h in
-    clash e (neither {x = x.submitted} {y = submitted_in m} (neither {x = submitted_in l} n).1).0
+    clash _ e (or_parts x.submitted (submitted_in m) (or_parts (submitted_in l) _ n).1).0
 
 ahead-tail : (x : Message) (l : List Message) → one_ahead (x ∷ l) ≡ true → one_ahead l ≡ true
 unfolding one_ahead any
 ahead-tail x [] h = refl
-ahead-tail x (y ∷ l) h = rw (neither {x = y.submitted} {y = submitted_in l} (not-true (submitted_in (y ∷ l)) h)).1
+ahead-tail x (y ∷ l) h = rw (or_parts y.submitted (submitted_in l) (not-true (submitted_in (y ∷ l)) h)).1
 
 -- Of those that pass a test a submitted message may be moved to the front of all.
 pub ahead-front :

@@ -5,13 +5,14 @@ use mathlib.Core.Path.{◌≡◌, ◌∙◌, refl}
 use mathlib.Core.Bool.{Bool, true, false, not, and-false}
 use mathlib.Core.List.{List, [], ◌∷◌, ◌++◌}
 use mathlib.Core.Option.{Option, some}
+use borrow.Author.Clash.{clash}
 use borrow.Author.Tests.{eqb-true, eq-eqb, ltb-true}
 use lib.Dec.{eqb, ltb}
 use lib.ListN.{length, set, length-append, length-set}
 use lib.Seq.{get_or-set_same}
 use Rattle.lists.specs.Lists.{keep, any, Found, nothing, first, others, All}
 use Rattle.lists.proofs.Lists.{keep_append, all_append, all_map, find-by, TakenOut, found-out, count-append, none_passes}
-use Rattle.lists.proofs.Choices.{by-test, clash}
+use Rattle.lists.proofs.Choices.{by-test}
 use Rattle.lists.proofs.Tables.{length-filed}
 use Rattle.llc_pdus.specs.declared.Pdu.{Pdu}
 use Rattle.llc_rule.specs.Calls.{Service, Request}
@@ -243,7 +244,7 @@ unfolding request_in_range
 receipt-within r h =
     by-test (ltb r.receipt 128)
     (λ e. ltb-true r.receipt 128 e)
-    (λ e. clash h (simp (e, and-false)))
+    (λ e. clash _ h (simp (e, and-false)))
 
 pub sound-with-acknowledged :
     (h : Holders) (l : Link) (r : Request)

@@ -5,13 +5,15 @@ use mathlib.Core.Path.{◌≡◌, ◌∙◌, refl, sym, ap}
 use mathlib.Core.Bool.{Bool, true, false, cond, not, ◌&&◌, ◌||◌, true≢false}
 use mathlib.Core.List.{List, [], ◌∷◌, ◌++◌}
 use mathlib.Core.Option.{Option, none, some}
+use borrow.Author.Clash.{clash}
 use borrow.Author.Tests.{eqb-true, eqb-false, eq-eqb, not-true}
 use lib.Dec.{eqb, ltb}
 use lib.ListN.{length}
 use lib.Seq.{get_or-set_other}
+use Rattle.std.proofs.lemmas.Bool.{and_parts, or_parts}
 use Rattle.lists.specs.Lists.{keep, any, among, Visit, walk, All}
 use Rattle.lists.proofs.Lists.{keep-yes, keep-no, all_map}
-use Rattle.lists.proofs.Choices.{by-test, both, neither, clash}
+use Rattle.lists.proofs.Choices.{by-test}
 use Rattle.tdma_time.specs.declared.TdmaTime.{TdmaTime}
 use Rattle.tx_receipt.specs.States.{is, number}
 use Rattle.tx_receipt.specs.Marks as Marks
@@ -240,7 +242,7 @@ visited-aged :
 visited-aged time t251 ps n none e w = record { touched = untouched n.sent.receipt ps; remains = one n refl refl w }
 visited-aged time t251 ps n (some t) e w =
     visited-overdue (overdue time t251 t) (ltb n.resends 3) ps n
-    (by-test n.submitted (λ h. h) (λ h. clash (ap has_time e) (ap has_time (w.time h))))
+    (by-test n.submitted (λ h. h) (λ h. clash _ (ap has_time e) (ap has_time (w.time h))))
     w
 
 visited-timed :
@@ -252,7 +254,7 @@ visited-timed :
     (aged_by time t251 ps (cond b (done_at time m) m) (cond b (done_at time m) m).done).stays
 visited-timed true time t251 ps m f w =
     visited-aged time t251 ps (done_at time m) (some time) refl
-    (record { expects = w.expects; receipt = w.receipt; time = λ h. clash (f refl) h })
+    (record { expects = w.expects; receipt = w.receipt; time = λ h. clash _ (f refl) h })
 visited-timed false time t251 ps m f w = visited-aged time t251 ps m m.done refl w
 
 -- A waiting message's receipt is Pending, so that it gets no done time and stays as it is.
@@ -269,7 +271,7 @@ visited-retransmission time t251 ps m w =
     by-test m.submitted
     (λ s. s)
     (λ s.
-    clash (both {x = not (has_time m.done)} h).1 (not-reported (place_at ps m.sent.receipt) (w.receipt s))))
+    clash _ (and_parts (not (has_time m.done)) _ h).1 (not-reported (place_at ps m.sent.receipt) (w.receipt s))))
     w
 
 passed-retransmissions :
@@ -294,7 +296,7 @@ under_way a q = any (λ (n : Message). n.submitted) (of_address a q)
 none_ahead : (l : List Message) → any (λ (n : Message). n.submitted) l ≡ false → one_ahead l ≡ true
 unfolding one_ahead any
 none_ahead [] h = refl
-none_ahead (m ∷ l) h = rw (neither {x = m.submitted} h).1
+none_ahead (m ∷ l) h = rw (or_parts m.submitted _ h).1
 
 module _ (a : ℕ) (m : Message) (q : List Message) where
   way-own : eqb m.sent.ssi a ≡ true → under_way a (m ∷ q) ≡ m.submitted || under_way a q
@@ -316,12 +318,12 @@ none-thinned : (a : ℕ) (q q' : List Message) → Thinned AsBefore q q' → und
 none-thinned a q q' end h = h
 none-thinned a q q' (left m {q = p} {q' = p'} t) h =
     by-test (eqb m.sent.ssi a)
-    (λ e. none-thinned a p p' t (neither {x = m.submitted} (rw (way-own a m p e) at h)).1)
+    (λ e. none-thinned a p p' t (or_parts m.submitted _ (rw (way-own a m p e) at h)).1)
     (λ e. none-thinned a p p' t (rw (way-other a m p e) at h))
 none-thinned a q q' (kept m m' {q = p} {q' = p'} s k t) h =
     by-test (eqb m.sent.ssi a)
     (λ e.
-    let n = neither {x = m.submitted} (rw (way-own a m p e) at h) in
+    let n = or_parts m.submitted _ (rw (way-own a m p e) at h) in
     rw (way-own a m' p' (rw s e), k, n.0) (none-thinned a p p' t n.1))
     (λ e. rw (way-other a m' p' (rw s e)) (none-thinned a p p' t (rw (way-other a m p e) at h)))
 
@@ -439,7 +441,7 @@ first_by s m false false f =
       sent = refl;
       own = among_first m.sent.ssi s.blocked;
       others = λ a h. among-other m.sent.ssi a s.blocked h;
-      blocked = λ h. clash h f;
+      blocked = λ h. clash _ h f;
     }
 
 first-is : (s : Sending) (m : Message) → SentFirst s m (first_sending s m)

@@ -9,9 +9,10 @@ use mathlib.Core.Option.{Option, none, some, some-injective, none-ne-some}
 use borrow.Author.Tests.{eq-eqb}
 use lib.Dec.{eqb}
 use lib.ListN.{drop, replicate}
+use Rattle.std.proofs.lemmas.Bool.{or_parts, cond-true, cond-false}
 use Rattle.lists.specs.Lists.{any}
 use Rattle.lists.proofs.Lists.{any_append}
-use Rattle.lists.proofs.Choices.{by-test, neither, if-true, if-false}
+use Rattle.lists.proofs.Choices.{by-test}
 use Rattle.tdma_time.specs.declared.TdmaTime.{TdmaTime}
 use Rattle.tx_receipt.specs.declared.TxState.{TxState}
 use Rattle.tx_receipt.specs.declared.TxState.TheVariants.{Transmitted, Lost}
@@ -48,17 +49,17 @@ last_cut p (x ∷ l) =
 module _ (p : Exchange → Bool) (x : Exchange) (b : List Exchange) (is : p x ≡ true) where
   first-is : (f : List Exchange) → any p f ≡ false → first_cut p (f ++ (x ∷ b)) ≡ some (record { before = f; at = x; behind = b })
   unfolding first_cut any
-  first-is [] n = if-true _ _ is
+  first-is [] n = cond-true _ _ _ is
   first-is (y ∷ f) n =
-      let t = neither {x = p y} {y = any p f} n in if-false _ _ t.0 ∙ ap (ahead y) (first-is f t.1)
+      let t = or_parts (p y) (any p f) n in cond-false _ _ _ t.0 ∙ ap (ahead y) (first-is f t.1)
 
   last-is : (f : List Exchange) → any p b ≡ false → last_cut p (f ++ (x ∷ b)) ≡ some (record { before = f; at = x; behind = b })
   unfolding last_cut any
-  last-is [] n = if-true _ _ is ∙ if-false _ _ n
+  last-is [] n = cond-true _ _ _ is ∙ cond-false _ _ _ n
   last-is (y ∷ f) n =
       by-test (p y)
-      (λ e. if-true _ _ e ∙ if-true _ _ (any_append p f (x ∷ b) ∙ rw is (or-true (any p f))) ∙ ap (ahead y) (last-is f n))
-      (λ e. if-false _ _ e ∙ ap (ahead y) (last-is f n))
+      (λ e. cond-true _ _ _ e ∙ cond-true _ _ _ (any_append p f (x ∷ b) ∙ rw is (or-true (any p f))) ∙ ap (ahead y) (last-is f n))
+      (λ e. cond-false _ _ _ e ∙ ap (ahead y) (last-is f n))
     where
       or-true : (c : Bool) → c || true ≡ true
       or-true true = refl

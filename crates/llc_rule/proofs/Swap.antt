@@ -6,8 +6,9 @@ use mathlib.Core.List.{List, [], ◌∷◌, ◌++◌, map, map-append, append-ni
 use mathlib.Core.Option.{Option, none, some}
 use borrow.Author.Tests.{eqb-true, eqb-false, eq-eqb, ne_eqb}
 use lib.Dec.{eqb}
+use Rattle.std.proofs.lemmas.Bool.{and_parts, and_right}
 use Rattle.lists.specs.Lists.{all, among}
-use Rattle.lists.proofs.Choices.{by-test, both, and-false}
+use Rattle.lists.proofs.Choices.{by-test}
 use Rattle.questions.specs.Outcome.{number}
 use Rattle.llc_rule.specs.Messages.{place_at, is_free}
 use Rattle.llc_rule.specs.Link.{Link, new}
@@ -63,12 +64,12 @@ own-other :
     → concerns a (whose_at x c) ≡ false
     → own a (next x c).known.holders (next x c).link ≡ own a x.known.holders x.link
 unfolding and_then in_past
-own-other a x c ok w = (others a x.known.holders x.link c ok (and-false (not (left_out (number_at x c))) w)).next
+own-other a x c ok w = (others a x.known.holders x.link c ok (and_right (not (left_out (number_at x c))) _ w)).next
 
 alike-other : (a : ℕ) (x y : Moment) (c : List ℕ) → SoundAt x → concerns a (whose_at x c) ≡ false → Alike a x y → Alike a (next x c) y
 unfolding and_then in_past
 alike-other a x y c ok w s =
-    let p = and-false (not (left_out (number_at x c))) w in
+    let p = and_right (not (left_out (number_at x c))) _ w in
     let n = append-nil (x.known.past a) in
     record {
       same-calls = rw (p, n) s.same-calls;
@@ -151,7 +152,7 @@ same-concern a x y c ok also q =
 -- The same calls, from two moments that are alike.
 first-unhindered : (l : Link) (c : List ℕ) (cs : List (List ℕ)) → unhindered (run l (c ∷ cs)) ≡ true → Unhindered (number (step l c)) × (unhindered (run (left l (step l c)) cs) ≡ true)
 unfolding unhindered all run
-first-unhindered l c cs u = both {x = not (among (number (step l c)) hindrances)} {y = unhindered (run (left l (step l c)) cs)} u
+first-unhindered l c cs u = and_parts (not (among (number (step l c)) hindrances)) (unhindered (run (left l (step l c)) cs)) u
 
 alike_next : (a : ℕ) (x y : Moment) (c : List ℕ) → SoundAt x → SoundAt y → Unhindered (number_at x c) → Unhindered (number_at y c) → Alike a x y → Alike a (next x c) (next y c)
 alike_next a x y c ok also u v s =

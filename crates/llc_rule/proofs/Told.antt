@@ -4,13 +4,15 @@ use mathlib.Core.Path.{◌≡◌, ◌∙◌, refl, sym, ap, subst}
 use mathlib.Core.Bool.{Bool, true, false, ◌||◌, true≢false, false≢true}
 use mathlib.Core.List.{List, [], ◌∷◌, ◌++◌, append_assoc, append-nil}
 use mathlib.Core.Option.{Option, none, some, some-injective, none-ne-some}
+use borrow.Author.Clash.{clash}
 use borrow.Author.Tests.{eqb-true, eqb-false, eq-eqb, ne_eqb, leb-true}
 use lib.Dec.{eqb}
 use lib.IntN.{ℤ, pos, negsuc}
 use lib.ListN.{length}
+use Rattle.std.proofs.lemmas.Bool.{cond_both, or_parts, cond-true, cond-false}
 use Rattle.lists.specs.Lists.{any}
 use Rattle.lists.proofs.Lists.{any_append}
-use Rattle.lists.proofs.Choices.{by-test, by-choice, neither, clash, if-true, if-false}
+use Rattle.lists.proofs.Choices.{by-test}
 use Rattle.tdma_time.specs.Slots.{first, minus}
 use Rattle.tdma_time.specs.declared.TdmaTime.{TdmaTime}
 use Rattle.tx_receipt.specs.declared.TxReceipt.{TxReceipt}
@@ -382,7 +384,7 @@ module _
         let a : AllSentWell k w (reported_on j how) (handed i e.records) =
         subst (λ (v : Event). AllSentWell k w v (handed i e.records)) ev good.sent in
         let silent = none-handed k w (reported_on j how) (handed i e.records) refl a in
-        by-choice (TaleOf i asked (since ++ (e ∷ []))) (eqb j i)
+        cond_both (eqb j i) _ _ (TaleOf i asked (since ++ (e ∷ [])))
         (λ h.
         let same : event_in e ≡ reported_on i how = ev ∙ ap (λ (n : ℕ). reported_on n how) (eqb-true j i h) in
         let u = good.unreported order how same in
@@ -418,8 +420,8 @@ holds_on :
     → ((r : Request) → x ≡ takes r → eqb i r.receipt ≡ false)
     → taken_by f x (λ j. some w) i ≡ some w
 holds_on i f w empties h untaken = absurd (true≢false h)
-holds_on i f w (takes r) h untaken = if-false (some (f r)) (some w) (untaken r refl)
-holds_on i f w (frees j) h untaken = if-false none (some w) (ne_eqb i j (λ e. eqb-false j i h (sym e)))
+holds_on i f w (takes r) h untaken = cond-false _ (some (f r)) (some w) (untaken r refl)
+holds_on i f w (frees j) h untaken = cond-false _ none (some w) (ne_eqb i j (λ e. eqb-false j i h (sym e)))
 holds_on i f w stays h untaken = refl
 
 module _ (i : ℕ) (k : Clock) (w : Watch) (e : Exchange) (good : GoodIn i k (some w) e) (still : ends_holding i e ≡ false) where
@@ -440,7 +442,7 @@ few-from : (i : ℕ) (k : Clock) (w : Watch) (es : List Exchange) → Each i k (
 unfolding sendings
 few-from i k w [] each = rw (append-nil w.sent) each
 few-from i k w (e ∷ es) each =
-    by-choice (λ (ss : List Sent). AtMostFour w.request (w.sent ++ ss)) (ends i (done_to e))
+    cond_both (ends i (done_to e)) _ _ (λ (ss : List Sent). AtMostFour w.request (w.sent ++ ss))
     (λ h. rw (append-nil w.sent) each.0)
     (λ h.
     let good = each.1.0 in
@@ -484,7 +486,7 @@ reach i asked since k w [] rest now order tale each h =
       final = refl;
     }
 reach i asked since k w (e ∷ xs) rest now order tale each h =
-    let n = neither {x = ends_holding i e} h in
+    let n = or_parts (ends_holding i e) _ h in
     let good = each.1.0 in
     let w' : Watch = after i k w e good n.0 in
     let k' : Clock = clock_next k (event_in e) in
@@ -510,7 +512,7 @@ reach i asked since k w (e ∷ xs) rest now order tale each h =
           r.sent
           ∙ ap (λ (ss : List Sent). ss ++ sendings i xs) g.sent
           ∙ append_assoc w.sent (handed i e.records) (sendings i xs)
-          ∙ ap (λ (ss : List Sent). w.sent ++ ss) (sym (if-false [] (handed i e.records ++ sendings i xs) n.0));
+          ∙ ap (λ (ss : List Sent). w.sent ++ ss) (sym (cond-false _ [] (handed i e.records ++ sendings i xs) n.0));
       each = r.each;
       final = ap (λ (o : Option Watch). watch_from i k' o xs) is ∙ r.final;
     }
@@ -527,7 +529,7 @@ module _ (i : ℕ) (asked since : List Exchange) (k : Clock) (now : k ≡ clock_
       → ((t : Sent) (rest : List Sent) → ts ≡ t ∷ rest → (done : TdmaTime) × ((noted ≡ some done) × (overdue k.time k.t251 done ≡ true)))
       → Reason i asked since
   again-why true ts report noted o t h why = absurd (true≢false o)
-  again-why false [] report noted o t h why = clash h t.0
+  again-why false [] report noted o t h why = clash _ h t.0
   again-why false (s ∷ ss) none none o t h why = let y = why s ss refl in absurd (none-ne-some y.0 y.1.0)
   again-why false (s ∷ ss) none (some done) o t h why = absurd t
   again-why false (s ∷ ss) (some how) none o t h why = let y = why s ss refl in absurd (none-ne-some y.0 y.1.0)
@@ -607,7 +609,7 @@ module _ (w : Watch) (p : Place) (r : TxReceipt) (is : p ≡ taken r) where
   gone-left i asked later Discarded e g tale sent u = left_over i 2 asked later w p tale g sent (rw (is, e)) (rw (is, e))
   gone-left i asked later Transmitted e g tale sent u = absurd g
   gone-left i asked later Lost e g tale sent u = left_over i 1 asked later w p tale g sent (rw (is, e)) (rw (is, e))
-  gone-left i asked later Acknowledged e g tale sent u = clash u (rw (is, e))
+  gone-left i asked later Acknowledged e g tale sent u = clash _ u (rw (is, e))
 
 -- The run --------------------------------------------------------------------------------------------------------------------
 
@@ -705,7 +707,7 @@ module _
                   gone-reads (reached-end h).watch (place_at ps at) g.receipt g.taken g.receipt.state refl g.how;
               over =
                   λ h u.
-                  by-test (is_held at ms) (λ t. clash u ((ended h).still t)) (λ t. t);
+                  by-test (is_held at ms) (λ t. clash _ u ((ended h).still t)) (λ t. t);
               left =
                   λ h left u.
                   let x = reached-end h in
@@ -739,7 +741,7 @@ four-of-each es each =
           let takes-it = request-takes e r n t in
           let begun : watched i k e (watch_from i at_outset none before) ≡ some w =
           ap (λ (x : Holding). if_any (goes_on i k (event_in e) (handed i e.records)) (taken_by (λ (q : Request). asking q (is_order (event_in e))) x (λ j. watch_from i at_outset none before) i)) takes-it
-          ∙ ap (if_any (goes_on i k (event_in e) (handed i e.records))) (if-true (some w) (watch_from i at_outset none before) (eq-eqb i i refl))
+          ∙ ap (if_any (goes_on i k (event_in e) (handed i e.records))) (cond-true _ (some w) (watch_from i at_outset none before) (eq-eqb i i refl))
           ∙ ap some (goes-taken i k w (event_in e) (handed i e.records) (taking-event e r takes-it)) in
           few-from i (clock_next k (event_in e)) w later
           (subst (λ (o : Option Watch). Each i (clock_next k (event_in e)) o later) begun

@@ -6,9 +6,10 @@ use mathlib.Core.Bool.{Bool, true, false}
 use mathlib.Core.List.{List, [], ◌∷◌}
 use borrow.Author.Tests.{not-true}
 use lib.ListN.{length}
+use Rattle.std.proofs.lemmas.Bool.{or_parts}
 use Rattle.lists.specs.Lists.{keep, any}
 use Rattle.lists.proofs.Lists.{keep-yes, keep-no}
-use Rattle.lists.proofs.Choices.{by-test, neither}
+use Rattle.lists.proofs.Choices.{by-test}
 use Rattle.llc_rule.specs.Messages.{Message}
 use Rattle.llc_rule.specs.Link.{Link, new}
 use Rattle.llc_rule.specs.Rule.{Own}
@@ -27,7 +28,7 @@ none_kept : (ms : List Message) → any is_submitted ms ≡ false → count_unde
 unfolding any keep
 none_kept [] e = refl
 none_kept (m ∷ ms) e =
-    let n = neither {x = is_submitted m} {y = any is_submitted ms} e in
+    let n = or_parts (is_submitted m) (any is_submitted ms) e in
     ap length (keep-no is_submitted m ms n.0) ∙ none_kept ms n.1
 
 at_most_one : (ms : List Message) → one_ahead ms ≡ true → count_under_way ms ≤ 1

@@ -5,9 +5,11 @@ use mathlib.Core.Path.{◌≡◌, refl, sym, ap, subst}
 use mathlib.Core.Bool.{Bool, true, false, cond, ◌||◌}
 use mathlib.Core.List.{List, [], ◌∷◌, ◌++◌, append-nil}
 use mathlib.Core.Option.{Option, none, some}
+use borrow.Author.Clash.{clash}
 use lib.Dec.{eqb}
 use lib.ListN.{length}
-use Rattle.lists.proofs.Choices.{by-choice, either, clash}
+use Rattle.std.proofs.lemmas.Bool.{cond_both}
+use Rattle.lists.proofs.Choices.{either}
 use Rattle.tdma_time.specs.declared.TdmaTime.{TdmaTime}
 use Rattle.tx_receipt.specs.declared.TxReceipt.{TxReceipt}
 use Rattle.tx_receipt.specs.declared.TxState.{TxState}
@@ -151,7 +153,7 @@ first_fine i k w (e ∷ es) each = each.0
 -- Nothing is handed down but at a tick end.
 pub none-handed : (k : Clock) (w : Watch) (v : Event) (ss : List Sent) → is_tick_ended v ≡ false → AllSentWell k w v ss → ss ≡ []
 none-handed k w v [] f a = refl
-none-handed k w v (s ∷ ss) f a = clash (ap is_tick_ended a.tick_end) f
+none-handed k w v (s ∷ ss) f a = clash _ (ap is_tick_ended a.tick_end) f
 
 -- Whose it is stays, and so does what was handed down, with what more is.
 pub record Goes (w v : Watch) (ss : List Sent) : Type 0 where
@@ -184,7 +186,7 @@ goes i k w tick_ended ss a = goes-ended i k w ss
 goes i k w (ordered r) ss a = goes-still k w (ordered r) ss refl a
 goes i k w (reported_on j how) ss a =
     let g = goes-still k w (reported_on j how) ss refl a in
-    by-choice (λ (v : Watch). Goes w v ss) (eqb j i)
+    cond_both (eqb j i) _ _ (λ (v : Watch). Goes w v ss)
     (λ h. record { request = refl; order = refl; sent = g.sent })
     (λ h. g)
 goes i k w other ss a = goes-still k w other ss refl a

@@ -4,8 +4,7 @@ use mathlib.Core.Path.{◌≡◌, ◌∙◌, refl, ap, ap₂}
 use mathlib.Core.Bool.{Bool, true, false, ◌||◌}
 use mathlib.Core.List.{List, [], ◌∷◌, ◌++◌}
 use lib.ListN.{take}
-use Rattle.lists.specs.Lists.{keep, any, all, All}
-use Rattle.lists.proofs.Choices.{if-true, if-false}
+use Rattle.lists.specs.Lists.{any, all, All}
 use Rattle.tx_receipt.specs.declared.TxState.TheVariants.{Lost}
 use Rattle.llc_rule.specs.Calls.{to_bytes}
 use Rattle.llc_rule.specs.Messages.{place_at}
@@ -25,7 +24,7 @@ use Rattle.llc_runs.specs.Claim.{link_at, receipts_after, messages_after}
 use Rattle.llc_runs.proofs.Ones.{Silent, read-heard, done-one}
 use Rattle.llc_runs.proofs.Runs.{silent, run-split, follows, fitting-yes, as_step}
 use Rattle.llc_runs.proofs.Claim.{put_right, claim}
-use Rattle.llc_runs.proofs.Instance.{zero_store, right, wide, wide_fits, is_bytes, lend, lent-fit, lent_first, lent_second, opening_lents, first_fits, second_fits, opening-put}
+use Rattle.llc_runs.proofs.Instance.{zero_store, right, wide, wide_fits, is_bytes, lend, lent-fit, lent_first, lent_second, opening_lents, second_fits}
 use Rattle.llc_runs.proofs.Applied.{first-put, asked_at, asked-there, asked-link}
 
 -- The calls behind the request up to the one before the release.

@@ -4,12 +4,14 @@ use mathlib.Core.Path.{◌≡◌, ◌∙◌, refl, sym, ap, ap₂, subst}
 use mathlib.Core.Bool.{true, false, not}
 use mathlib.Core.List.{List, [], ◌∷◌, ◌++◌, map}
 use mathlib.Core.Option.{Option, none, some}
+use borrow.Author.Clash.{clash}
 use borrow.Author.Tests.{eqb-true}
 use lib.Dec.{eqb}
 use lib.ListN.{length}
+use Rattle.std.proofs.lemmas.Bool.{cond-true, cond-false}
 use Rattle.lists.specs.Lists.{keep, among, All}
 use Rattle.lists.proofs.Lists.{all_back}
-use Rattle.lists.proofs.Choices.{by-test, if-true, if-false, clash}
+use Rattle.lists.proofs.Choices.{by-test}
 use Rattle.bits.proofs.Laws.{length-bits}
 use Rattle.questions.specs.Outcome.{accepted}
 use Rattle.llc_pdus.specs.Headers.{ns_of}
@@ -87,7 +89,7 @@ in-range store cs =
       number =
           λ c.
           one-is (after (begin store) cs) c
-          (λ e. clash e (ap (λ (t : Station). lent_right t.store c.out) n ∙ wrong-is (begin store) c w));
+          (λ e. clash _ e (ap (λ (t : Station). lent_right t.store c.out) n ∙ wrong-is (begin store) c w));
       length = ap (λ (t : Station). length t.store) n ∙ begin-long store;
     })
 
@@ -204,12 +206,12 @@ pub put_right :
     → fitting cs ≡ ds
     → put_to store (before ++ cs) ≡ put_to store before ++ ds
 put_right store before cs ds right e =
-    if-true (fitting (before ++ cs)) [] right
+    cond-true _ (fitting (before ++ cs)) [] right
     ∙ fitting-append before cs
-    ∙ ap₂ (λ (x y : List (List ℕ)). x ++ y) (sym (if-true (fitting before) [] right)) e
+    ∙ ap₂ (λ (x y : List (List ℕ)). x ++ y) (sym (cond-true _ (fitting before) [] right)) e
 
 put_wrong : (store : List ℕ) (cs ds : List Lent) → eqb (length store) store_bytes ≡ false → put_to store cs ≡ put_to store ds
-put_wrong store cs ds wrong = if-false (fitting cs) [] wrong ∙ sym (if-false (fitting ds) [] wrong)
+put_wrong store cs ds wrong = cond-false _ (fitting cs) [] wrong ∙ sym (cond-false _ (fitting ds) [] wrong)
 
 put_same :
     (store : List ℕ) (before cs ds : List Lent)

@@ -8,8 +8,8 @@ use mathlib.Core.List.{List, [], ◌∷◌, ◌++◌, append-nil}
 use borrow.Author.Tests.{ltb-true, le-leb, lt-leb, eq-eqb}
 use lib.Dec.{eqb, ltb, leb}
 use lib.ListN.{length, replicate, length-replicate}
+use Rattle.std.proofs.lemmas.Bool.{and_parts, cond-true, and_right}
 use Rattle.lists.specs.Lists.{keep, all, All}
-use Rattle.lists.proofs.Choices.{both, if-true, and-false}
 use Rattle.llc_rule.specs.Limits.{output_bytes, store_bytes}
 use Rattle.llc_rule.specs.Calls.{to_bytes}
 use Rattle.llc_rule.specs.Link.{new}
@@ -32,7 +32,7 @@ pub are-bytes : (c : List ℕ) → is_bytes c ≡ true → All (λ (b : ℕ). b 
 unfolding all
 are-bytes [] e = tt
 are-bytes (b ∷ c) e =
-    let t = both {x = ltb b 256} {y = is_bytes c} e in (ltb-true b 256 t.0, are-bytes c t.1)
+    let t = and_parts (ltb b 256) (is_bytes c) e in (ltb-true b 256 t.0, are-bytes c t.1)
 
 -- A call that is lent an output, and calls that are each lent the same.
 abbrev pub lend_one : List ℕ → (c : List ℕ) → is_bytes c ≡ true → Lent
@@ -42,14 +42,14 @@ unfoldable pub lend : List ℕ → (cs : List (List ℕ)) → all is_bytes cs �
 unfolding all
 lend out [] e = []
 lend out (c ∷ cs) e =
-    let t = both {x = is_bytes c} {y = all is_bytes cs} e in lend_one out c t.0 ∷ lend out cs t.1
+    let t = and_parts (is_bytes c) (all is_bytes cs) e in lend_one out c t.0 ∷ lend out cs t.1
 
 pub lent-fit :
     (out : List ℕ) (cs : List (List ℕ)) (e : all is_bytes cs ≡ true) → leb output_bytes (length out) ≡ true → fitting (lend out cs e) ≡ cs
 unfolding all lend keep
 lent-fit out [] e n = refl
 lent-fit out (c ∷ cs) e n =
-    let t = both {x = is_bytes c} {y = all is_bytes cs} e in
+    let t = and_parts (is_bytes c) (all is_bytes cs) e in
     fitting-yes (lend_one out c t.0) (lend out cs t.1) n
     ∙ ap (λ (ds : List (List ℕ)). c ∷ ds) (lent-fit out cs t.1 n)
 
@@ -128,7 +128,7 @@ second_fits = wide_fits
 pub opening-put : put_to zero_store opening_lents ≡ opening_calls
 unfolding started too_short keep
 opening-put =
-    if-true (fitting opening_lents) [] right
+    cond-true _ (fitting opening_lents) [] right
     ∙ fitting-append started (too_short ∷ [])
     ∙ ap₂ (λ (x y : List (List ℕ)). x ++ y)
     (lent-fit wide opening_calls opening-bytes wide_fits)
@@ -182,7 +182,7 @@ pub one_lent : eqb (exchange (after (begin zero_store) started) too_short).numbe
 unfolding lent_right too_short
 one_lent =
     (claim.in_range zero_store started).number too_short
-    ∙ ap not (and-false (eqb (length (after (begin zero_store) started).store) (8 * store_bytes)) short-does-not)
+    ∙ ap not (and_right (eqb (length (after (begin zero_store) started).store) (8 * store_bytes)) _ short-does-not)
 
 -- So demand 3 says of it what it says of every address.
 pub sees-lents : (a : ℕ) → SeesItsOwnPast (run (begin zero_store) lents) (receipts_after zero_store lents) a

@@ -7,9 +7,10 @@ use mathlib.Core.List.{List, [], ◌∷◌, ◌++◌, append-nil}
 use mathlib.Core.Option.{Option, none, some}
 use borrow.Author.Tests.{eqb-true, not-false}
 use lib.Dec.{eqb}
+use Rattle.std.proofs.lemmas.Bool.{cond-false}
 use Rattle.lists.specs.Lists.{keep, any, all, among, All}
 use Rattle.lists.proofs.Lists.{keep-yes, keep-no, keep_append, all_back, all-unit}
-use Rattle.lists.proofs.Choices.{by-test, if-false}
+use Rattle.lists.proofs.Choices.{by-test}
 use Rattle.llc_pdus.specs.Headers.{ns_of}
 use Rattle.llc_rule.specs.Calls.{parsed}
 use Rattle.llc_rule.specs.Records.{Record, ssi_of, Sent}
@@ -51,7 +52,7 @@ read-heard Q f same over s (e ∷ es) q =
 -- One such call.
 pub done-one : (e : Exchange) → e.number ≡ 1 → done_to e ≡ stays
 unfolding done_to
-done-one e n = if-false (about e.call).to_holding stays (ap (λ (k : ℕ). eqb k 0) n)
+done-one e n = cond-false _ (about e.call).to_holding stays (ap (λ (k : ℕ). eqb k 0) n)
 
 past_one : (a : ℕ) (h : Holders) (e : Exchange) → e.number ≡ 1 → in_past a h e ≡ false
 unfolding in_past
@@ -62,11 +63,11 @@ unfolding and_then holders keep
 history-one k e n g =
     let past_is : (a : ℕ) → k.past a ++ cond (in_past a k.holders e) (e ∷ []) [] ≡ k.past a =
     λ a.
-    ap (λ (x : List Exchange). k.past a ++ x) (if-false (e ∷ []) [] (past_one a k.holders e n)) ∙ append-nil (k.past a) in
+    ap (λ (x : List Exchange). k.past a ++ x) (cond-false _ (e ∷ []) [] (past_one a k.holders e n)) ∙ append-nil (k.past a) in
     let strays-are : (a : ℕ) → k.strays a ++ cond (in_past a k.holders e) [] (keep (λ (r : Record). eqb (ssi_of r) a) e.records) ≡ k.strays a =
     λ a.
     ap (λ (x : List Record). k.strays a ++ x)
-    (if-false [] (keep (λ (r : Record). eqb (ssi_of r) a) e.records) (past_one a k.holders e n)
+    (cond-false _ [] (keep (λ (r : Record). eqb (ssi_of r) a) e.records) (past_one a k.holders e n)
     ∙ ap (keep (λ (r : Record). eqb (ssi_of r) a)) g)
     ∙ append-nil (k.strays a) in
     λ i.
@@ -78,7 +79,7 @@ history-one k e n g =
 
 none-heard : (e : Exchange) → e.number ≡ 1 → heard_in e ≡ neither
 unfolding heard_in
-none-heard e n = if-false (hearing (parsed e.call)) neither (ap (λ (k : ℕ). eqb k 0) n)
+none-heard e n = cond-false _ (hearing (parsed e.call)) neither (ap (λ (k : ℕ). eqb k 0) n)
 
 -- So it is of the history of a run.
 pub history-heard : (k : History) (es : List Exchange) → All Silent es → history k es ≡ history k (heard_of es)
@@ -104,14 +105,14 @@ sendings-heard i es q =
     read-heard Silent sendings
     (λ j e es ds r. ap (λ (x : List Sent). cond (ends j (done_to e)) [] (handed j e.records ++ x)) (r j))
     (λ j e es n g.
-    if-false [] (handed j e.records ++ sendings j es) (ap (ends j) (done-one e n))
+    cond-false _ [] (handed j e.records ++ sendings j es) (ap (ends j) (done-one e n))
     ∙ ap (λ (rs : List Record). handed j rs ++ sendings j es) (g n))
     i es q
 
 -- And of what is read of a receipt.
 none_told : (e : Exchange) → e.number ≡ 1 → event_in e ≡ other
 unfolding event_in
-none_told e n = if-false (event (parsed e.call)) other (ap (λ (k : ℕ). eqb k 0) n)
+none_told e n = cond-false _ (event (parsed e.call)) other (ap (λ (k : ℕ). eqb k 0) n)
 
 any_same : (i : ℕ) (k : Clock) (ss : List Sent) (w : Option Watch) → if_any (goes_on i k other ss) w ≡ w
 any_same i k ss none = refl

@@ -13,7 +13,6 @@ use Rattle.questions.specs.Outcome.{Outcome, accepted, refused}
 use Rattle.llc_rule.specs.Limits.{store_bytes}
 use Rattle.llc_rule.specs.Records.{bytes, all_bytes}
 use Rattle.llc_rule.specs.Link.{new}
-use Rattle.llc_rule.specs.Runs as Rule
 use Rattle.llc_rule.specs.Runs.{Exchange}
 use Rattle.llc_rule.specs.Sizes.{Fits}
 use Rattle.llc_rule.proofs.Records.{all-determined}

@@ -3,13 +3,12 @@ use Prim.Native.Nat.{◌≤◌, ◌<◌, ℕ}
 use native.Mathlib.Omega.{arith}
 use mathlib.Core.Path.{◌≡◌, refl}
 use mathlib.Core.Bool.{Bool, true, false, ◌&&◌}
+use borrow.Author.Clash.{clash}
 use borrow.Author.Tests.{leb-true, ltb-true, le-leb}
 use lib.Dec.{leb, ltb}
 use lib.ListN.{take}
-use Rattle.std.specs.List.{list_all}
+use Rattle.std.proofs.lemmas.Bool.{and_parts, and_from}
 use Rattle.lists.specs.Lists.{all}
-use Rattle.lists.proofs.Std.{all-list}
-use Rattle.lists.proofs.Choices.{both, and-true, clash}
 use Rattle.tdma_time.specs.Slots.{valid}
 use Rattle.tdma_time.specs.declared.TdmaTime.{TdmaTime}
 use Rattle.llc_pdus.specs.Headers.{bdata, udata, ack, length_of}
@@ -25,7 +24,7 @@ use Rattle.llc_state.specs.declared.State.{State}
 -- A flag and what is asked where it says so.
 pub there-tells : {there fits : Bool} → if_there there fits ≡ true → there ≡ true → fits ≡ true
 there-tells {there = true} h e = h
-there-tells {there = false} h e = clash e refl
+there-tells {there = false} h e = clash _ e refl
 
 pub there-holds : {there fits : Bool} → (there ≡ true → fits ≡ true) → if_there there fits ≡ true
 there-holds {there = true} f = f refl
@@ -40,10 +39,10 @@ pub record Held (e : Entry) : Type 0 where
 pub entry-tells : (e : Entry) → entry_in_range e ≡ true → Held e
 unfolding entry_in_range sent_in_range
 entry-tells e h =
-    let c = both {x = sent_in_range e.sent} {y = ltb e.frame.place store_places} h in
-    let b = both {y = leb e.sent.block_len 64} c.0 in
+    let c = and_parts (sent_in_range e.sent) (ltb e.frame.place store_places) h in
+    let b = and_parts _ (leb e.sent.block_len 64) c.0 in
     let a =
-    both {x = is_ssi e.sent.ssi && is_type e.sent.ssi_type && if_there e.sent.has_mask (ltb e.sent.mask 16)} {y = is_receipt e.sent.receipt} b.0
+    and_parts (is_ssi e.sent.ssi && is_type e.sent.ssi_type && if_there e.sent.has_mask (ltb e.sent.mask 16)) (is_receipt e.sent.receipt) b.0
     in
     record { receipt = ltb-true _ _ a.1; block = leb-true _ _ b.1; place = ltb-true _ _ c.1 }
 
@@ -56,7 +55,7 @@ pub progress-tells : (p : Progress) → progress_in_range p ≡ true → Come p
 unfolding progress_in_range
 progress-tells p h =
     let b =
-    both {x = leb p.retransmit_count 3} {y = if_there p.has_umac_done (valid p.t_umac_done)} h
+    and_parts (leb p.retransmit_count 3) (if_there p.has_umac_done (valid p.t_umac_done)) h
     in
     record { count = leb-true _ _ b.0; done = there-tells b.1 }
 
@@ -65,10 +64,10 @@ unfolding progress_in_range
 progress-holds p c = rw (le-leb p.retransmit_count 3 c.count, there-holds c.done)
 
 pub new-fits : (ns : Bool) → progress_in_range (new_progress ns) ≡ true
-new-fits ns = progress-holds (new_progress ns) (record { count = omega arith; done = λ t. clash t refl })
+new-fits ns = progress-holds (new_progress ns) (record { count = omega arith; done = λ t. clash _ t refl })
 
 pub submitted-fits : (k : ℕ) (p : Progress) → k ≤ 3 → progress_in_range (submitted_after k p) ≡ true
-submitted-fits k p few = progress-holds (submitted_after k p) (record { count = few; done = λ t. clash t refl })
+submitted-fits k p few = progress-holds (submitted_after k p) (record { count = few; done = λ t. clash _ t refl })
 
 pub done-fits : (time : TdmaTime) (p : Progress) → valid time ≡ true → progress_in_range p ≡ true → progress_in_range (done_at time p) ≡ true
 done-fits time p v h = progress-holds (done_at time p) (record { count = (progress-tells p h).count; done = λ t. v })
@@ -83,9 +82,9 @@ pub record Message (e : Entry) : Type 0 where
 pub message-tells : (e : Entry) → message_in_range e ≡ true → Message e
 unfolding message_in_range
 message-tells e h =
-    let c = both {y = progress_in_range e.progress} h in
-    let b = both {y = leb e.frame.len longest_sent} c.0 in
-    let a = both {x = entry_in_range e} {y = leb (length_of bdata) e.frame.len} b.0 in
+    let c = and_parts _ (progress_in_range e.progress) h in
+    let b = and_parts _ (leb e.frame.len longest_sent) c.0 in
+    let a = and_parts (entry_in_range e) (leb (length_of bdata) e.frame.len) b.0 in
     record { entry = a.0; low = leb-true _ _ a.1; high = leb-true _ _ b.1; progress = c.1 }
 
 pub message-holds : (e : Entry) → Message e → message_in_range e ≡ true
@@ -113,8 +112,8 @@ pub record Udata (e : Entry) : Type 0 where
 pub udata-tells : (e : Entry) → udata_in_range e ≡ true → Udata e
 unfolding udata_in_range
 udata-tells e h =
-    let b = both {y = leb e.frame.len (longest_of ack)} h in
-    let a = both {x = entry_in_range e} {y = leb (length_of udata) e.frame.len} b.0 in
+    let b = and_parts _ (leb e.frame.len (longest_of ack)) h in
+    let a = and_parts (entry_in_range e) (leb (length_of udata) e.frame.len) b.0 in
     record { entry = a.0; low = leb-true _ _ a.1; high = leb-true _ _ b.1 }
 
 pub udata-holds : (e : Entry) → Udata e → udata_in_range e ≡ true
@@ -133,17 +132,17 @@ pub record Head (s : State) : Type 0 where
 pub head-tells : (s : State) → head_in_range s ≡ true → Head s
 unfolding head_in_range
 head-tells s h =
-    let e = both {y = if_there s.started (ltb 0 s.t251 && valid s.dltime)} h in
-    let d = both {y = leb s.n_rows 256} e.0 in
-    let c = both {y = leb s.n_acks 64} d.0 in
-    let b = both {y = leb s.n_udata 32} c.0 in
+    let e = and_parts _ (if_there s.started (ltb 0 s.t251 && valid s.dltime)) h in
+    let d = and_parts _ (leb s.n_rows 256) e.0 in
+    let c = and_parts _ (leb s.n_acks 64) d.0 in
+    let b = and_parts _ (leb s.n_udata 32) c.0 in
     record {
       messages = leb-true _ _ b.0;
       udata = leb-true _ _ b.1;
       acks = leb-true _ _ c.1;
       rows = leb-true _ _ d.1;
-      timer = λ t. (both {y = valid s.dltime} (there-tells e.1 t)).0;
-      time = λ t. (both {x = ltb 0 s.t251} (there-tells e.1 t)).1;
+      timer = λ t. (and_parts _ (valid s.dltime) (there-tells e.1 t)).0;
+      time = λ t. (and_parts (ltb 0 s.t251) _ (there-tells e.1 t)).1;
     }
 
 pub head-holds : (s : State) → Head s → head_in_range s ≡ true
@@ -154,7 +153,7 @@ head-holds s h =
       le-leb s.n_udata 32 h.udata,
       le-leb s.n_acks 64 h.acks,
       le-leb s.n_rows 256 h.rows,
-      there-holds {there = s.started} {fits = ltb 0 s.t251 && valid s.dltime} (λ t. and-true (h.timer t) (h.time t)),
+      there-holds {there = s.started} {fits = ltb 0 s.t251 && valid s.dltime} (λ t. and_from _ _ (h.timer t) (h.time t)),
     )
 
 -- The whole state.
@@ -169,26 +168,13 @@ pub record InRange (s : State) : Type 0 where
 pub range-tells : (s : State) → state_in_range s ≡ true → InRange s
 unfolding state_in_range
 range-tells s h =
-    let e = both {y = all place_in_range s.receipts} h in
-    let d = both {y = all row_in_range (take s.n_rows s.link_send_seq)} e.0 in
-    let c = both {y = all ack_in_range (take s.n_acks s.scheduled_out_acks)} d.0 in
-    let b = both {y = all udata_in_range (take s.n_udata s.outbound_udata_messages)} c.0 in
-    let a = both {y = all message_in_range (take s.n_messages s.outbound_messages)} b.0 in
+    let e = and_parts _ (all place_in_range s.receipts) h in
+    let d = and_parts _ (all row_in_range (take s.n_rows s.link_send_seq)) e.0 in
+    let c = and_parts _ (all ack_in_range (take s.n_acks s.scheduled_out_acks)) d.0 in
+    let b = and_parts _ (all udata_in_range (take s.n_udata s.outbound_udata_messages)) c.0 in
+    let a = and_parts _ (all message_in_range (take s.n_messages s.outbound_messages)) b.0 in
     record { head = head-tells s a.0; messages = a.1; udata = b.1; acks = c.1; rows = d.1; places = e.1 }
 
 pub in-range : (s : State) → InRange s → state_in_range s ≡ true
 unfolding state_in_range
 in-range s r = rw (head-holds s r.head, r.messages, r.udata, r.acks, r.rows, r.places)
-
--- The code's question: the counts and the time, and then each array in std's words.
-pub all_asked :
-    (s : State)
-    → head_in_range s ≡ true
-    → list_all message_in_range (take s.n_messages s.outbound_messages)
-    && list_all udata_in_range (take s.n_udata s.outbound_udata_messages)
-    && list_all ack_in_range (take s.n_acks s.scheduled_out_acks)
-    && list_all row_in_range (take s.n_rows s.link_send_seq)
-    && list_all place_in_range s.receipts
-    ≡ state_in_range s
-unfolding state_in_range
-all_asked s h = rw (h, all-list message_in_range, all-list udata_in_range, all-list ack_in_range, all-list row_in_range, all-list place_in_range)

@@ -1,4 +1,5 @@
 pub mod InRange
+pub mod Counts
 pub mod InUse
 pub mod Lengths
 pub mod Maps

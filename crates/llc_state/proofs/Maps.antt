@@ -1,22 +1,11 @@
 -- A function on every element of a list, with other operations on lists.
-use Prim.Native.Nat.{ℕ, zero, suc}
 use mathlib.Core.Path.{◌≡◌, refl, sym, ◌∙◌, ap}
 use mathlib.Core.Bool.{Bool, cond, ◌||◌}
-use mathlib.Core.List.{List, [], ◌∷◌, ◌++◌, map}
-use lib.ListN.{set}
+use mathlib.Core.List.{List, [], ◌∷◌, map}
 use Rattle.lists.specs.Lists.{any, Found, nothing, first, behind, find, others}
 use Rattle.lists.proofs.Choices.{ap-cond}
 
 module _ {A B : Type 0} (g : A → B) where
-  pub map-append : (l m : List A) → map g (l ++ m) ≡ map g l ++ map g m
-  map-append [] m = refl
-  map-append (x ∷ l) m = ap (λ (t : List B). g x ∷ t) (map-append l m)
-
-  pub map-set : (l : List A) (i : ℕ) (x : A) → map g (set l i x) ≡ set (map g l) i (g x)
-  map-set [] i x = refl
-  map-set (y ∷ l) zero x = refl
-  map-set (y ∷ l) (suc i) x = ap (λ (t : List B). g y ∷ t) (map-set l i x)
-
   pub map-map : {C : Type 0} (f : B → C) (l : List A) → map f (map g l) ≡ map (λ (x : A). f (g x)) l
   map-map f [] = refl
   map-map f (x ∷ l) = ap (λ (t : List _). f (g x) ∷ t) (map-map f l)

@@ -4,6 +4,7 @@ use mathlib.Core.Path.{◌≡◌, ◌∙◌, refl, sym, ap}
 use mathlib.Core.Bool.{Bool, true, false, ◌&&◌}
 use mathlib.Core.List.{List, map}
 use lib.ListN.{set, get_or-map}
+use lib.Seq.{map-set}
 use Rattle.tx_receipt.specs.Marks as Marks
 use Rattle.tx_receipt.specs.Marks.{Mark}
 use Rattle.tx_receipt.specs.declared.TxReceipt.{TxReceipt}
@@ -15,7 +16,6 @@ use Rattle.llc_state.specs.States.{no_receipt}
 use Rattle.llc_state.specs.View.{place_in, link_in}
 use Rattle.llc_state.specs.declared.ReceiptPlace.{ReceiptPlace}
 use Rattle.llc_state.specs.declared.State.{State}
-use Rattle.llc_state.proofs.Maps.{map-set}
 
 -- A marked place as the link has it.
 taken-in-link : (r : TxReceipt) → place_in (taken_by r) ≡ taken r

@@ -1,8 +1,10 @@
 // Question 1 of a state's counts and values in use.
-ghost use Rattle.std.specs.Prelude.{◌≡◌, ◌≤◌};
+ghost use Rattle.std.specs.Prelude.{◌≡◌, ◌≤◌, Bool};
 ghost use Rattle.std.specs.Bool.{OnTrue};
 ghost use Rattle.std.specs.List.{list_all};
-ghost use Rattle.llc_state.specs.Ranges.{sent_in_range, progress_in_range, entry_in_range, message_in_range, udata_in_range, ack_in_range, place_in_range, row_in_range, head_in_range, state_in_range};
+ghost use Rattle.std.specs.Fn.{FnReturnsAt};
+ghost use Rattle.llc_rule.specs.Ranges.{is_type};
+ghost use Rattle.llc_state.specs.Ranges.{is_ssi, sent_in_range, progress_in_range, entry_in_range, message_in_range, udata_in_range, ack_in_range, place_in_range, row_in_range, head_in_range, state_in_range};
 
 use crate::{
     Entry, LinkSendSeq, Progress, ReceiptPlace, STORE_PLACES, ScheduledOutAck, State,
@@ -21,16 +23,30 @@ const SHORTEST_UDATA: usize = 4;
 
 const LONGEST_UDATA: usize = 5 + N251_BL_MAX_TLSDU_LEN_BITS + FCS_BITS;
 
+// Is it an SSI, of 24 bits?
+fn is_ssi(ssi: u32) -> bool
+    ensures { result ≡ is_ssi ssi }
+{
+    ssi < 1 << 24
+}
+
+// Is it individual or group?
+fn is_type(ssi_type: u8) -> bool
+    ensures { result ≡ is_type ssi_type }
+{
+    matches!(ssi_type, 1 | 2)
+}
+
 // What is handed down of a message.
 #[tactic(auto, unfolding(crate::specs::Ranges::sent_in_range))]
 fn sent_in_range(sent: &TmaUnitdataReq) -> bool
     ensures { result ≡ sent_in_range sent.now }
 {
-    (sent.ssi < 16_777_216)
-        & ((sent.ssi_type == 1) | (sent.ssi_type == 2))
-        & (!sent.has_mask | (sent.mask < 16))
-        & (sent.receipt < 128)
-        & (sent.block_len <= 64)
+    is_ssi(sent.ssi)
+        && is_type(sent.ssi_type)
+        && (!sent.has_mask || sent.mask < 16)
+        && sent.receipt < 128
+        && sent.block_len <= sent.block.len()
 }
 
 // How far a message has come.
@@ -38,7 +54,7 @@ fn sent_in_range(sent: &TmaUnitdataReq) -> bool
 fn progress_in_range(progress: &Progress) -> bool
     ensures { result ≡ progress_in_range progress.now }
 {
-    (progress.retransmit_count <= 3) & (!progress.has_umac_done | progress.t_umac_done.is_valid())
+    progress.retransmit_count <= 3 && (!progress.has_umac_done || progress.t_umac_done.is_valid())
 }
 
 // An entry of either queue.
@@ -46,7 +62,7 @@ fn progress_in_range(progress: &Progress) -> bool
 fn entry_in_range(e: &Entry) -> bool
     ensures { result ≡ entry_in_range e.now }
 {
-    sent_in_range(&e.sent) & (e.frame.place < STORE_PLACES)
+    sent_in_range(&e.sent) && e.frame.place < STORE_PLACES
 }
 
 // An entry of the acknowledged queue.
@@ -55,17 +71,16 @@ fn message_in_range(e: &Entry) -> bool
     ensures { result ≡ message_in_range e.now }
 {
     entry_in_range(e)
-        & (SHORTEST_MESSAGE <= e.frame.len)
-        & (e.frame.len <= LONGEST_MESSAGE)
-        & progress_in_range(&e.progress)
+        && (SHORTEST_MESSAGE..=LONGEST_MESSAGE).contains(&e.frame.len)
+        && progress_in_range(&e.progress)
 }
 
 // An entry of the unacknowledged queue.
 #[tactic(auto, unfolding(crate::specs::Ranges::udata_in_range))]
-fn udata_message_in_range(e: &Entry) -> bool
+fn udata_in_range(e: &Entry) -> bool
     ensures { result ≡ udata_in_range e.now }
 {
-    entry_in_range(e) & (SHORTEST_UDATA <= e.frame.len) & (e.frame.len <= LONGEST_UDATA)
+    entry_in_range(e) && (SHORTEST_UDATA..=LONGEST_UDATA).contains(&e.frame.len)
 }
 
 // An acknowledgement that is due.
@@ -73,7 +88,7 @@ fn udata_message_in_range(e: &Entry) -> bool
 fn ack_in_range(a: &ScheduledOutAck) -> bool
     ensures { result ≡ ack_in_range a.now }
 {
-    (a.ssi < 16_777_216) & ((a.ssi_type == 1) | (a.ssi_type == 2)) & (1 <= a.ts) & (a.ts <= 4)
+    is_ssi(a.ssi) && is_type(a.ssi_type) && (1..=4).contains(&a.ts)
 }
 
 // The place of a receipt.
@@ -81,7 +96,7 @@ fn ack_in_range(a: &ScheduledOutAck) -> bool
 fn place_in_range(place: &ReceiptPlace) -> bool
     ensures { result ≡ place_in_range place.now }
 {
-    !place.taken | (place.state < 5)
+    !place.taken || place.state < 5
 }
 
 // An address row.
@@ -89,42 +104,17 @@ fn place_in_range(place: &ReceiptPlace) -> bool
 fn row_in_range(row: &LinkSendSeq) -> bool
     ensures { result ≡ row_in_range row.now }
 {
-    row.ssi < 16_777_216
+    is_ssi(row.ssi)
 }
 
-// All messages of a queue.
-fn messages_in_range(entries: &[Entry]) -> bool
-    ensures { result ≡ list_all message_in_range entries.now }
+// Do all elements pass?
+fn all_of<T, F: Fn(&T) -> bool>(elements: &[T], passes: F) -> bool
+    ghost test: { T → Bool }
+    requires callable { F.IsAlwaysCallable passes }
+    requires tests { (x : T) (r : Bool) → FnReturnsAt F.Fn passes x r → r ≡ test x }
+    ensures { result ≡ list_all test elements.now }
 {
-    entries.iter().all(message_in_range)
-}
-
-// All unacknowledged messages.
-fn udata_in_range(entries: &[Entry]) -> bool
-    ensures { result ≡ list_all udata_in_range entries.now }
-{
-    entries.iter().all(udata_message_in_range)
-}
-
-// All acknowledgements that are due.
-fn acks_in_range(acks: &[ScheduledOutAck]) -> bool
-    ensures { result ≡ list_all ack_in_range acks.now }
-{
-    acks.iter().all(ack_in_range)
-}
-
-// All rows.
-fn rows_in_range(rows: &[LinkSendSeq]) -> bool
-    ensures { result ≡ list_all row_in_range rows.now }
-{
-    rows.iter().all(row_in_range)
-}
-
-// All receipts' places.
-fn places_in_range(places: &[ReceiptPlace]) -> bool
-    ensures { result ≡ list_all place_in_range places.now }
-{
-    places.iter().all(place_in_range)
+    elements.iter().all(passes)
 }
 
 impl State {
@@ -134,25 +124,26 @@ impl State {
         ensures value { result ≡ head_in_range self.now }
         ensures counts { OnTrue result ((self.now.n_messages ≤ 64) × (self.now.n_udata ≤ 32) × (self.now.n_acks ≤ 64) × (self.now.n_rows ≤ 256)) }
     {
-        (self.n_messages <= 64)
-            & (self.n_udata <= 32)
-            & (self.n_acks <= 64)
-            & (self.n_rows <= 256)
-            & (!self.started | ((0 < self.t251) & self.dltime.is_valid()))
+        self.n_messages <= self.outbound_messages.len()
+            && self.n_udata <= self.outbound_udata_messages.len()
+            && self.n_acks <= self.scheduled_out_acks.len()
+            && self.n_rows <= self.link_send_seq.len()
+            && (!self.started || 0 < self.t251 && self.dltime.is_valid())
     }
 
     /// Is every count, and every value in use, within its range?
-    #[tactic(auto, using(crate::proofs::InRange::all_asked), unfolding(crate::specs::Ranges::state_in_range))]
+    #[tactic(auto, using(lists::proofs::Std::all_list), unfolding(crate::specs::Ranges::state_in_range))]
     pub fn in_range(&self) -> bool
         ensures { result ≡ state_in_range self.now }
     {
-        if !self.head_in_range() {
-            return false;
-        }
-        messages_in_range(&self.outbound_messages[..self.n_messages])
-            & udata_in_range(&self.outbound_udata_messages[..self.n_udata])
-            & acks_in_range(&self.scheduled_out_acks[..self.n_acks])
-            & rows_in_range(&self.link_send_seq[..self.n_rows])
-            & places_in_range(&self.receipts)
+        self.head_in_range()
+            && all_of(&self.outbound_messages[..self.n_messages], message_in_range)
+            && all_of(
+                &self.outbound_udata_messages[..self.n_udata],
+                udata_in_range,
+            )
+            && all_of(&self.scheduled_out_acks[..self.n_acks], ack_in_range)
+            && all_of(&self.link_send_seq[..self.n_rows], row_in_range)
+            && all_of(&self.receipts, place_in_range)
     }
 }

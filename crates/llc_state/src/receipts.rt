@@ -1,7 +1,7 @@
 // The receipts of a state, by their numbers.
 ghost use Rattle.std.specs.Prelude.{◌≡◌, ◌&&◌, ◌<◌};
 ghost use Rattle.tx_receipt.specs.Marks.{acknowledged, allowed, marked};
-ghost use Rattle.llc_state.specs.Receipts.{receipt_of, receipt_in, taken_by, requested_receipt, marked_place, mark_receipt, take_receipt, free_receipt};
+ghost use Rattle.llc_state.specs.Receipts.{receipt_of, receipt_in, taken_by, requested_receipt, marked_place, place_of, mark_receipt, take_receipt, free_receipt};
 
 use crate::{ReceiptPlace, State};
 use tx_receipt::{Mark, TxReceipt, TxState, lent};
@@ -11,9 +11,10 @@ fn requested(expects_ack: bool) -> TxReceipt
     ensures { result ≡ requested_receipt expects_ack }
 {
     if expects_ack {
-        return TxReceipt::new();
+        TxReceipt::new()
+    } else {
+        TxReceipt::new_unacked()
     }
-    TxReceipt::new_unacked()
 }
 
 // A receipt after a mark; a mark that is refused leaves it as it was.
@@ -43,10 +44,7 @@ impl ReceiptPlace {
     pub fn receipt(self) -> Option<TxReceipt>
         ensures { result ≡ receipt_in self }
     {
-        if !self.taken {
-            return None;
-        }
-        Some(TxReceipt {
+        self.taken.then_some(TxReceipt {
             expects_ack: self.expects_ack,
             state: TxState::from(self.state),
         })
@@ -67,45 +65,50 @@ impl ReceiptPlace {
     pub fn marked(self, mark: Mark) -> ReceiptPlace
         ensures { result ≡ marked_place mark self }
     {
-        match self.receipt() {
-            Some(tx) => ReceiptPlace::taken_by(marked(tx, mark)),
-            None => self,
-        }
+        self.receipt()
+            .map_or(self, |tx| ReceiptPlace::taken_by(marked(tx, mark)))
     }
 
     /// Is the place taken, and may its receipt be marked as acknowledged?
     pub fn is_awaiting(self) -> bool
         ensures { result ≡ self.taken && allowed acknowledged (receipt_of self) }
     {
-        match self.receipt() {
-            Some(mut tx) => lent::acknowledged(&mut tx).is_ok(),
-            None => false,
-        }
+        self.receipt()
+            .is_some_and(|tx| tx.allows(Mark::Acknowledged))
     }
 }
 
 impl State {
-    /// Marks the receipt of a place, if the place is taken.
-    pub fn mark_receipt(&mut self, i: usize, mark: Mark)
-        requires { i < 128 }
-        ensures { self.new ≡ mark_receipt self.old i mark }
+    /// The place of a receipt's number.
+    pub fn receipt_place(&self, receipt: u8) -> ReceiptPlace
+        requires { receipt < 128 }
+        ensures { result ≡ place_of self.now.receipts receipt }
     {
-        self.receipts[i] = self.receipts[i].marked(mark);
+        let places = &self.receipts;
+        places[receipt as usize]
+    }
+
+    /// Marks the receipt of a place, if the place is taken.
+    pub fn mark_receipt(&mut self, receipt: u8, mark: Mark)
+        requires { receipt < 128 }
+        ensures { self.new ≡ mark_receipt self.old receipt mark }
+    {
+        self.receipts[receipt as usize] = self.receipt_place(receipt).marked(mark);
     }
 
     /// Lets a place be taken by a pending receipt.
-    pub fn take_receipt(&mut self, i: usize, expects_ack: bool)
-        requires { i < 128 }
-        ensures { self.new ≡ take_receipt self.old i expects_ack }
+    pub fn take_receipt(&mut self, receipt: u8, expects_ack: bool)
+        requires { receipt < 128 }
+        ensures { self.new ≡ take_receipt self.old receipt expects_ack }
     {
-        self.receipts[i] = ReceiptPlace::taken_by(requested(expects_ack));
+        self.receipts[receipt as usize] = ReceiptPlace::taken_by(requested(expects_ack));
     }
 
     /// Frees a place.
-    pub fn free_receipt(&mut self, i: usize)
-        requires { i < 128 }
-        ensures { self.new ≡ free_receipt self.old i }
+    pub fn free_receipt(&mut self, receipt: u8)
+        requires { receipt < 128 }
+        ensures { self.new ≡ free_receipt self.old receipt }
     {
-        self.receipts[i] = ReceiptPlace::empty();
+        self.receipts[receipt as usize] = ReceiptPlace::empty();
     }
 }

@@ -92,9 +92,7 @@ impl Progress {
     pub fn new(ns: bool) -> Progress
         ensures { result ≡ new_progress ns }
     {
-        let mut progress = NO_PROGRESS;
-        progress.ns = ns;
-        progress
+        Progress { ns, ..NO_PROGRESS }
     }
 }
 
@@ -153,16 +151,7 @@ impl State {
             started: true,
             main_carrier,
             t251,
-            dltime: FIRST,
-            n_messages: 0,
-            outbound_messages: [NO_ENTRY; 64],
-            n_udata: 0,
-            outbound_udata_messages: [NO_ENTRY; 32],
-            n_acks: 0,
-            scheduled_out_acks: [NO_ACK; 64],
-            receipts: [NO_RECEIPT; 128],
-            n_rows: 0,
-            link_send_seq: [NO_ROW; 256],
+            ..NEW
         }
     }
 

@@ -2,7 +2,7 @@
 use Prim.Native.Nat.{ℕ}
 use mathlib.Core.Path.{◌≡◌, ◌∙◌, refl, sym, ap, ap₂}
 use mathlib.Core.Bool.{Bool, true, false, cond, not, ◌&&◌, ◌||◌, beq}
-use mathlib.Core.List.{List, [], ◌∷◌, map}
+use mathlib.Core.List.{List, [], ◌∷◌, map, map-append}
 use mathlib.Core.Option.{Option, none, some}
 use lib.Dec.{eqb, ltb}
 use lib.ListN.{length-map}
@@ -32,7 +32,7 @@ use Rattle.llc_state.specs.declared.LinkSendSeq.{LinkSendSeq}
 use Rattle.llc_state.specs.declared.State.{State}
 use Rattle.llc_state.specs.Receipts.{mark_receipt}
 use Rattle.llc_state.proofs.Places.{taken_in, mark-receipt-in, free-receipt-in}
-use Rattle.llc_state.proofs.Maps.{map-append, map_found, find-map, any-map}
+use Rattle.llc_state.proofs.Maps.{map_found, find-map, any-map}
 use Rattle.llc_steps.specs.States.{messages_of, udata_of, acks_of, rows_of, with_messages, with_acks, Kept}
 use Rattle.llc_steps.specs.Calls.{seq_of, heard_seq, row_if_numbered, ack_room, scheduled, heard_rows, numbered, repeats, is_repeat, expected, fits, finishable, may_finish, answered_by, answered, on_received, held, waits, on_report, on_release, on_receipt}
 use Rattle.llc_steps.specs.Holds.{kept_in, Counted}

@@ -5,13 +5,15 @@ use native.Mathlib.Omega.{arith}
 use mathlib.Core.Path.{◌≡◌, ◌∙◌, refl, sym, ap}
 use mathlib.Core.Bool.{true, false}
 use mathlib.Core.List.{List, [], ◌∷◌, ◌++◌, map}
+use borrow.Author.Clash.{clash}
 use borrow.Author.Tests.{leb-true, leb-false, le-leb, lt-leb, eqb-true, eqb-false}
 use lib.Dec.{eqb, leb}
 use lib.ListN.{length, take, drop, length-append, length-map, length-drop}
 use lib.Seq.{drop_at, drop-append-le, drop-append-add, drop-drop, take-append-le, take-append_seam, length-take-le}
+use Rattle.std.proofs.lemmas.Bool.{or_parts}
 use Rattle.lists.specs.Lists.{keep, any, among, All}
 use Rattle.lists.proofs.Lists.{any_append, length-keep, none-counted}
-use Rattle.lists.proofs.Choices.{by-test, neither, clash}
+use Rattle.lists.proofs.Choices.{by-test}
 use Rattle.bits.specs.Bits.{part, splice}
 use Rattle.bits.proofs.Laws.{part-take}
 use Rattle.llc_rule.specs.Limits.{place_bits, store_bytes, store_places}
@@ -50,7 +52,7 @@ fewer p us h =
     by-test (leb 1 (count p us))
     (λ t. let some : 1 ≤ count p us = leb-true 1 (count p us) t in omega arith)
     (λ f.
-    let none : count p us < 1 = leb-false 1 (count p us) f in clash h (none-counted (λ (k : ℕ). eqb k p) us (omega arith)))
+    let none : count p us < 1 = leb-false 1 (count p us) f in clash _ h (none-counted (λ (k : ℕ). eqb k p) us (omega arith)))
 
 -- Where fewer than n of us are p or more, one of the n numbers from p on is not among them, and it is found.
 first-from : (n p : ℕ) (us : List ℕ) → from p us < n → (first_free n p us < p + n) × (among (first_free n p us) us ≡ false)
@@ -79,7 +81,7 @@ none-there :
     → All (λ (e : Entry). eqb e.frame.place p ≡ false) es
 unfolding any
 none-there p [] h = tt
-none-there p (e ∷ es) h = let both = neither h in (both.0, none-there p es both.1)
+none-there p (e ∷ es) h = let both = or_parts _ _ h in (both.0, none-there p es both.1)
 
 -- The place that a new message takes is in the store, and no held message has it.
 pub free-place :
@@ -97,7 +99,7 @@ free-place s h =
     length-append (map place ms) (map place us) ∙ rw (length-map ms place, length-map us place) in
     let free = first-free (map place ms ++ map place us) (rw long h) in
     let p : ℕ = first_free store_places 0 (map place ms ++ map place us) in
-    let none = neither (sym (any_append (λ (k : ℕ). eqb k p) (map place ms) (map place us)) ∙ free.1) in
+    let none = or_parts _ _ (sym (any_append (λ (k : ℕ). eqb k p) (map place ms) (map place us)) ∙ free.1) in
     (free.0, none-there p ms none.0, none-there p us none.1)
 
 -- What was put at a place is read there.

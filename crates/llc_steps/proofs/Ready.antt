@@ -6,8 +6,8 @@ use mathlib.Core.Bool.{Bool, true}
 use mathlib.Core.List.{List, [], ◌∷◌}
 use lib.ListN.{length}
 use lib.Seq.{length-take-le}
+use Rattle.std.proofs.lemmas.Bool.{and_parts}
 use Rattle.lists.specs.Lists.{all, All}
-use Rattle.lists.proofs.Choices.{both}
 use Rattle.llc_rule.specs.Limits.{store_bytes}
 use Rattle.llc_state.specs.Ranges.{message_in_range, udata_in_range, state_in_range}
 use Rattle.llc_state.specs.declared.Entry.{Entry}
@@ -26,7 +26,7 @@ udata-stored e h = let u = udata-tells e h in ((entry-tells e u.entry).place, om
 all-stored : (p : Entry → Bool) → ((e : Entry) → p e ≡ true → Stored e) → (es : List Entry) → all p es ≡ true → All Stored es
 unfolding all
 all-stored p f [] h = tt
-all-stored p f (e ∷ es) h = let t = both {x = p e} {y = all p es} h in (f e t.0, all-stored p f es t.1)
+all-stored p f (e ∷ es) h = let t = and_parts (p e) (all p es) h in (f e t.0, all-stored p f es t.1)
 
 -- The arrays have their lengths in every state that the code has (`lengths` of llc_state).
 pub ready : (s : State) (store : List ℕ) → Lengths s → state_in_range s ≡ true → length store ≡ 8 * store_bytes → Ready s store

@@ -9,9 +9,10 @@ use borrow.Author.Tests.{ltb-true, lt-ltb, le-leb}
 use lib.Dec.{leb}
 use lib.IntN.{negsuc}
 use lib.ListN.{length}
+use Rattle.std.proofs.lemmas.Bool.{and_parts}
 use Rattle.lists.specs.Lists.{Found, nothing, first}
 use Rattle.lists.proofs.Lists.{FoundBy, find-by}
-use Rattle.lists.proofs.Choices.{both, either}
+use Rattle.lists.proofs.Choices.{either}
 use Rattle.questions.specs.Outcome.{Outcome, accepted, refused}
 use Rattle.questions.proofs.Asked.{by-question}
 use Rattle.tdma_time.specs.Slots.{plus}
@@ -65,7 +66,7 @@ module _ (f : Frame) (s : State) (store : List ℕ) (ok : Sane s store) (ssi : f
   -- The new acknowledgement due and the row are in range, and there is room for them.
   type-in-range : is_type f.type ≡ true
   unfolding frame_in_range
-  type-in-range = (both {y = leb (length f.block) 64} (both {y = leb (length f.pdu) longest_frame} h).0).0
+  type-in-range = (and_parts _ (leb (length f.block) 64) (and_parts _ (leb (length f.pdu) longest_frame) h).0).0
 
   new-in-range :
       (ns : Bool)

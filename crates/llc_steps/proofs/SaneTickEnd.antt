@@ -7,9 +7,10 @@ use mathlib.Core.List.{List, [], ◌∷◌}
 use borrow.Author.Tests.{ltb-true}
 use lib.Dec.{ltb}
 use lib.ListN.{length, length-append}
+use Rattle.std.proofs.lemmas.Bool.{cond_both}
 use Rattle.lists.specs.Lists.{among, Visit, walk, All}
 use Rattle.lists.proofs.Lists.{all_append}
-use Rattle.lists.proofs.Choices.{by-choice, either}
+use Rattle.lists.proofs.Choices.{either}
 use Rattle.tdma_time.specs.Slots.{valid}
 use Rattle.tdma_time.specs.declared.TdmaTime.{TdmaTime}
 use Rattle.tx_receipt.specs.Marks as Marks
@@ -82,7 +83,7 @@ aged-visited :
     → Visited message_in_range Full 1 (aged time t251 ps e)
 aged-visited time t251 ps e n h =
     either (Visited message_in_range Full 1) (is_due time t251 e)
-    (by-choice (Visited message_in_range Full 1) (ltb e.progress.retransmit_count 3)
+    (cond_both (ltb e.progress.retransmit_count 3) _ _ (Visited message_in_range Full 1)
     (λ t.
     record {
       stays =

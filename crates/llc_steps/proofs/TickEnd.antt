@@ -3,7 +3,7 @@ use Prim.Native.Nat.{ℕ}
 use native.Mathlib.Numerals.{add-one}
 use mathlib.Core.Path.{◌≡◌, ◌∙◌, refl, sym, ap, ap₂}
 use mathlib.Core.Bool.{Bool, true, false, cond, not, ◌&&◌}
-use mathlib.Core.List.{List, [], ◌∷◌, ◌++◌, map}
+use mathlib.Core.List.{List, [], ◌∷◌, ◌++◌, map, map-append}
 use mathlib.Core.Option.{none, some}
 use lib.Dec.{ltb}
 use Rattle.lists.specs.Lists.{among, Visit, ◌then◌, walk}
@@ -25,7 +25,7 @@ use Rattle.llc_state.specs.declared.ReceiptPlace.{ReceiptPlace}
 use Rattle.llc_state.specs.declared.State.{State}
 use Rattle.llc_state.specs.Receipts.{receipt_of, place_of, mark, with_places}
 use Rattle.llc_state.proofs.Places.{mark-in, taken_in}
-use Rattle.llc_state.proofs.Maps.{map-append, map-map}
+use Rattle.llc_state.proofs.Maps.{map-map}
 use Rattle.llc_steps.specs.States.{messages_of, udata_of, acks_of, with_messages, with_acks}
 use Rattle.llc_steps.specs.TickEnd.{submitted_entry, timed, stay, resend, leave, aged, retransmission, Sending, first_sending, retransmissions, first_sendings, ticked, tick_records, after_retransmissions, after_sendings}
 use Rattle.llc_steps.proofs.Setters.{messages-in, udata-in, acks-in, places-in}

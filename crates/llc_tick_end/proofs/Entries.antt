@@ -3,8 +3,6 @@ use Prim.Native.Nat.{◌≤◌, ◌<◌}
 use native.Mathlib.Omega.{arith}
 use mathlib.Core.Path.{◌≡◌}
 use mathlib.Core.Bool.{true}
-use mir.Syntax.{w64}
-use mir.Val.{Fits}
 use Rattle.llc_pdus.specs.Writes.{longest_sent}
 use Rattle.llc_rule.specs.Limits.{store_places}
 use Rattle.llc_state.specs.Ranges.{message_in_range, udata_in_range}
@@ -29,7 +27,3 @@ udata-measures e h =
     let u = udata-tells e h in
     let t = entry-tells e u.entry in
     record { receipt = t.receipt; block = t.block; place = t.place; len = omega (arith, u.high) }
-
--- The number of its receipt as an index.
-pub receipt-fits : {e : Entry} → Measures e → Fits w64 e.sent.receipt
-receipt-fits m = omega (arith, m.receipt)

@@ -4,13 +4,14 @@ use native.Mathlib.Omega.{arith}
 use mathlib.Core.Path.{◌≡◌, ◌∙◌, refl, sym, ap, ap₂, subst}
 use mathlib.Core.Bool.{Bool, true, false, cond}
 use mathlib.Core.List.{List, [], ◌∷◌, ◌++◌, append-nil}
-use lib.ListN.{length, get_or, set, take, drop, replicate, length-append}
-use lib.Seq.{get_or-take, length-take-le}
-use Rattle.lists.specs.Lists.{all, among, Visit, ◌then◌}
+use lib.ListN.{length, get_or, set, take, drop, length-append}
+use lib.Seq.{get_or-take, take-append_seam}
+use Rattle.std.specs.List.{list_any}
+use Rattle.std.proofs.lemmas.Bool.{cond-true, cond-false}
+use Rattle.lists.specs.Lists.{all, any, among, Visit, ◌then◌}
 use Rattle.lists.specs.Arrays.{laid}
 use Rattle.lists.specs.Writes.{Wrote}
 use Rattle.lists.proofs.Writes.{same_bytes}
-use Rattle.lists.proofs.Choices.{if-true, if-false}
 use Rattle.lists.proofs.Tests.{used-at}
 use Rattle.bits.specs.Bits.{bits}
 use Rattle.tx_receipt.specs.Marks.{reset}
@@ -23,12 +24,12 @@ use Rattle.llc_state.specs.declared.Entry.{Entry}
 use Rattle.llc_state.specs.declared.State.{State}
 use Rattle.llc_steps.specs.States.{messages_of, with_messages, put_messages}
 use Rattle.llc_steps.specs.TickEnd.{submitted_entry, stay, Sending, first_sending, first_sendings, after_sendings}
-use Rattle.llc_tick_end.specs.Passes.{sent_bytes_of}
-use Rattle.llc_tick_end.proofs.Blocked.{Filled, none_yet, as_before, one_more}
+use Rattle.llc_tick_end.specs.Passes.{sent_bytes_of, of_ssi}
+use Rattle.llc_tick_end.proofs.Blocked.{one-blocked}
 use Rattle.llc_tick_end.proofs.Entries.{Measures, message-measures}
 use Rattle.llc_tick_end.proofs.InPlace.{next-is, next-left, next-set, laid-over}
 use Rattle.llc_tick_end.proofs.Records.{bytes_of, none-written, one-more, room-left}
-use Rattle.llc_tick_end.proofs.Retransmitting.{with_arrays, handed}
+use Rattle.llc_tick_end.proofs.Retransmitting.{with_arrays, handed, messages-count}
 use Rattle.llc_tick_end.proofs.Walking.{Walking, walks, walks-on, walked, put-out}
 
 -- The state of the walk before it, and the visits that block an SSI: to a message under way, and to one that is handed down.
@@ -50,22 +51,22 @@ sends s e =
 module _ (s : Sending) (e : Entry) where
   under-way : e.progress.submitted_to_umac ≡ true → first_sending s e ≡ blocks s e
   unfolding first_sending
-  under-way t = if-true (blocks s e) (cond (among e.sent.ssi s.blocked) (stay s e) (sends s e)) t
+  under-way t = cond-true _ (blocks s e) (cond (among e.sent.ssi s.blocked) (stay s e) (sends s e)) t
 
   waiting : e.progress.submitted_to_umac ≡ false → among e.sent.ssi s.blocked ≡ true → first_sending s e ≡ stay s e
   unfolding first_sending
   waiting f t =
-      if-false (blocks s e) (cond (among e.sent.ssi s.blocked) (stay s e) (sends s e)) f
-      ∙ if-true (stay s e) (sends s e) t
+      cond-false _ (blocks s e) (cond (among e.sent.ssi s.blocked) (stay s e) (sends s e)) f
+      ∙ cond-true _ (stay s e) (sends s e) t
 
   free : e.progress.submitted_to_umac ≡ false → among e.sent.ssi s.blocked ≡ false → first_sending s e ≡ sends s e
   unfolding first_sending
   free f g =
-      if-false (blocks s e) (cond (among e.sent.ssi s.blocked) (stay s e) (sends s e)) f
-      ∙ if-false (stay s e) (sends s e) g
+      cond-false _ (blocks s e) (cond (among e.sent.ssi s.blocked) (stay s e) (sends s e)) f
+      ∙ cond-false _ (stay s e) (sends s e) g
 
--- Before turn i: the visits so far, what they left in the state, what was written, and the SSIs that are blocked.
-pub record Passing (s : State) (store l : List ℕ) (at₀ : ℕ) (out : List ℕ) (next : State) (at : ℕ) (ssis : List ℕ) (k i : ℕ) : Type 0 where
+-- Before turn i: the visits so far, what they left in the state, what was written, and which SSIs are blocked.
+pub record Passing (s : State) (store l : List ℕ) (at₀ : ℕ) (out : List ℕ) (next : State) (at i : ℕ) : Type 0 where
   pub few : s.n_messages ≤ 64
   pub array : length s.outbound_messages ≡ 64
   pub visits : Visit Sending Entry Entry
@@ -73,13 +74,14 @@ pub record Passing (s : State) (store l : List ℕ) (at₀ : ℕ) (out : List �
   pub many : length visits.stays ≡ i
   pub holds : next ≡ with_arrays s (visits.stays ++ drop i s.outbound_messages) visits.state.receipts
   pub wrote : Wrote l at₀ (bytes_of (handed store) visits.out) out at
-  pub blocked : Filled ssis k i visits.state.blocked
+  pub blocked : (x : ℕ) → list_any (of_ssi x) visits.stays ≡ among x visits.state.blocked
 
 pub begins :
     {s : State} {store l : List ℕ} {at : ℕ}
     → s.n_messages ≤ 64
     → length s.outbound_messages ≡ 64
-    → Passing s store l at l s at (replicate 64 0) 0 0
+    → Passing s store l at l s at 0
+unfolding any
 begins {s} {store} {l} {at} h a =
     record {
       few = h;
@@ -89,24 +91,20 @@ begins {s} {store} {l} {at} h a =
       many = refl;
       holds = refl;
       wrote = none-written (handed store) l at;
-      blocked = none_yet;
+      blocked = λ x. refl;
     }
 
 -- The same of what equals the state, the output and the place.
 pub at-join :
-    {s : State} {store l : List ℕ} {at₀ : ℕ} {out out₁ : List ℕ} {next next₁ : State} {at at₁ : ℕ} {ssis : List ℕ} {k i : ℕ}
+    {s : State} {store l : List ℕ} {at₀ : ℕ} {out out₁ : List ℕ} {next next₁ : State} {at at₁ i : ℕ}
     → next₁ ≡ next
     → out₁ ≡ out
     → at₁ ≡ at
-    → Passing s store l at₀ out next at ssis k i
-    → Passing s store l at₀ out₁ next₁ at₁ ssis k i
+    → Passing s store l at₀ out next at i
+    → Passing s store l at₀ out₁ next₁ at₁ i
 at-join p q r h = rw (p, q, r) h
 
-module _ {s : State} {store l : List ℕ} {at₀ : ℕ} {out : List ℕ} {next : State} {at : ℕ} {ssis : List ℕ} {k i : ℕ} (h : Passing s store l at₀ out next at ssis k i) where
-  -- How many messages there are.
-  all-count : length (messages_of s) ≡ s.n_messages
-  all-count = length-take-le s.n_messages s.outbound_messages (omega (arith, h.few, h.array))
-
+module _ {s : State} {store l : List ℕ} {at₀ : ℕ} {out : List ℕ} {next : State} {at i : ℕ} (h : Passing s store l at₀ out next at i) where
   module _ (d : Entry) (less : i < s.n_messages) where
     within : i < length s.outbound_messages
     within = omega (arith, less, h.few, h.array)
@@ -130,7 +128,7 @@ module _ {s : State} {store l : List ℕ} {at₀ : ℕ} {out : List ℕ} {next :
         subst (λ (u : Visit Sending Entry Entry).
         Walking first_sending (none-blocked s) (messages_of s) (i + 1) (◌then◌ h.visits u))
         one
-        (walks-on h.walking d (omega (arith, less, all-count)))
+        (walks-on h.walking d (omega (arith, less, messages-count s h.few h.array)))
 
     pub in-range : all message_in_range (messages_of s) ≡ true → Measures e
     in-range r =
@@ -138,9 +136,16 @@ module _ {s : State} {store l : List ℕ} {at₀ : ℕ} {out : List ℕ} {next :
         (ap message_in_range as_it_was
         ∙ used-at message_in_range s.n_messages s.outbound_messages i d r less (omega (arith, h.few, h.array)))
 
-    -- The test of the blocked SSIs.
-    asked : {b c : Bool} → b ≡ among e.sent.ssi (take k ssis) → b ≡ c → among e.sent.ssi h.visits.state.blocked ≡ c
-    asked p q = sym (h.blocked.holds e.sent.ssi) ∙ sym p ∙ q
+    -- The test of the earlier messages.
+    abbrev earlier : Bool
+    earlier = list_any (of_ssi e.sent.ssi) (take i next.outbound_messages)
+
+    is_blocked : earlier ≡ among e.sent.ssi h.visits.state.blocked
+    is_blocked =
+        ap (λ (t : State). list_any (of_ssi e.sent.ssi) (take i t.outbound_messages)) h.holds
+        ∙ ap (λ (k : ℕ). list_any (of_ssi e.sent.ssi) (take k (h.visits.stays ++ drop i s.outbound_messages))) (sym h.many)
+        ∙ ap (list_any (of_ssi e.sent.ssi)) (take-append_seam h.visits.stays (drop i s.outbound_messages))
+        ∙ h.blocked e.sent.ssi
 
     -- The state after a visit at which one element stays, and a turn that leaves it.
     abbrev turned : Visit Sending Entry Entry → State
@@ -148,14 +153,13 @@ module _ {s : State} {store l : List ℕ} {at₀ : ℕ} {out : List ℕ} {next :
         with_arrays s ((h.visits.stays ++ w.stays) ++ drop (i + 1) s.outbound_messages) w.state.receipts
 
     goes_on :
-        (w : Visit Sending Entry Entry) {out' : List ℕ} {next' : State} {at' : ℕ} {ssis' : List ℕ} {k' : ℕ}
+        (w : Visit Sending Entry Entry) {out' : List ℕ} {next' : State} {at' : ℕ}
         → first_sending h.visits.state e ≡ w
         → length w.stays ≡ 1
         → next' ≡ turned w
         → Wrote l at₀ (bytes_of (handed store) (h.visits.out ++ w.out)) out' at'
-        → Filled ssis' k' (i + 1) w.state.blocked
-        → Passing s store l at₀ out' next' at' ssis' k' (i + 1)
-    goes_on w is one kept wr b =
+        → Passing s store l at₀ out' next' at' (i + 1)
+    goes_on w is one kept wr =
         record {
           few = h.few;
           array = h.array;
@@ -164,7 +168,9 @@ module _ {s : State} {store l : List ℕ} {at₀ : ℕ} {out : List ℕ} {next :
           many = omega (arith, length-append h.visits.stays w.stays, h.many);
           holds = kept;
           wrote = wr;
-          blocked = b;
+          blocked =
+              subst (λ (v : Visit Sending Entry Entry). (x : ℕ) → list_any (of_ssi x) (h.visits.stays ++ v.stays) ≡ among x v.state.blocked) is
+              (one-blocked h.visits.stays h.visits.state e h.blocked);
         }
 
     -- The message is left as it is, and nothing is written.
@@ -179,26 +185,16 @@ module _ {s : State} {store l : List ℕ} {at₀ : ℕ} {out : List ℕ} {next :
     none-sent = same_bytes (ap (bytes_of (handed store)) (sym (append-nil h.visits.out))) h.wrote
 
     -- A message that is under way, one that waits behind such a one, and one that is handed down.
-    pub is-under-way :
-        e.progress.submitted_to_umac ≡ true
-        → Passing s store l at₀ out next at (set ssis k e.sent.ssi) (k + 1) (i + 1)
-    is-under-way t =
-        goes_on (blocks h.visits.state e) (under-way h.visits.state e t) refl as_is none-sent
-        (one_more h.blocked e.sent.ssi (omega (arith, less, h.few)))
+    pub is-under-way : e.progress.submitted_to_umac ≡ true → Passing s store l at₀ out next at (i + 1)
+    is-under-way t = goes_on (blocks h.visits.state e) (under-way h.visits.state e t) refl as_is none-sent
 
-    pub waits :
-        {b : Bool}
-        → e.progress.submitted_to_umac ≡ false
-        → b ≡ among e.sent.ssi (take k ssis)
-        → b ≡ true
-        → Passing s store l at₀ out next at ssis k (i + 1)
-    waits f p t =
-        goes_on (stay h.visits.state e) (waiting h.visits.state e f (asked p t)) refl as_is none-sent
-        (as_before h.blocked)
+    pub waits : e.progress.submitted_to_umac ≡ false → earlier ≡ true → Passing s store l at₀ out next at (i + 1)
+    waits f t =
+        goes_on (stay h.visits.state e) (waiting h.visits.state e f (sym is_blocked ∙ t)) refl as_is none-sent
 
-    module _ {b : Bool} (f : e.progress.submitted_to_umac ≡ false) (p : b ≡ among e.sent.ssi (take k ssis)) (g : b ≡ false) where
+    module _ (f : e.progress.submitted_to_umac ≡ false) (g : earlier ≡ false) where
       is_free : first_sending h.visits.state e ≡ sends h.visits.state e
-      is_free = free h.visits.state e f (asked p g)
+      is_free = free h.visits.state e f (sym is_blocked ∙ g)
 
       pub room :
           at₀ + length (sent_bytes_of (bits store) (first_sendings s).out) ≤ length l
@@ -213,7 +209,7 @@ module _ {s : State} {store l : List ℕ} {at₀ : ℕ} {out : List ℕ} {next :
           (with_arrays next
           (set next.outbound_messages i (submitted_entry e.progress.retransmit_count e))
           (mark reset e.sent.receipt next.receipts))
-          j (set ssis k e.sent.ssi) (k + 1) (i + 1)
+          j (i + 1)
       unfolding bytes
       is-sent w =
           let x : Entry = submitted_entry e.progress.retransmit_count e in
@@ -224,18 +220,17 @@ module _ {s : State} {store l : List ℕ} {at₀ : ℕ} {out : List ℕ} {next :
           ∙ ap (λ (es : List Entry). with_arrays s es (mark reset e.sent.receipt h.visits.state.receipts))
           (next-set h.visits.stays s.outbound_messages i d h.many within x))
           (one-more (handed store) h.visits.out h.wrote e w)
-          (one_more h.blocked e.sent.ssi (omega (arith, less, h.few)))
 
   -- No message is left.
   module _ (none : s.n_messages ≤ i) where
     whole : h.visits ≡ first_sendings s
     unfolding first_sendings
-    whole = walked h.walking (omega (arith, none, all-count))
+    whole = walked h.walking (omega (arith, none, messages-count s h.few h.array))
 
     pub left-state : next ≡ after_sendings s
     left-state =
         let v : Visit Sending Entry Entry = h.visits in
-        let all : i ≡ s.n_messages = omega (arith, none, all-count, h.walking.low) in
+        let all : i ≡ s.n_messages = omega (arith, none, messages-count s h.few h.array, h.walking.low) in
         let laid_so : v.stays ++ drop i s.outbound_messages ≡ laid no_entry s.n_messages v.stays s.outbound_messages =
         ap (λ (j : ℕ). v.stays ++ drop j s.outbound_messages) all
         ∙ sym (laid-over no_entry s.n_messages v.stays s.outbound_messages (h.many ∙ all))

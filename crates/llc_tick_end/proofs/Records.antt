@@ -2,14 +2,13 @@
 use Prim.Native.Nat.{ℕ, suc, ◌+◌, ◌≤◌, ◌<◌}
 use native.Mathlib.Omega.{arith}
 use mathlib.Core.Path.{◌≡◌, ◌∙◌, sym, ap}
-use mathlib.Core.List.{List, [], ◌∷◌, ◌++◌, map, append-nil}
+use mathlib.Core.List.{List, [], ◌∷◌, ◌++◌, map, append-nil, map-append}
 use lib.ListN.{length, get_or, take, drop, length-append, take-append-drop}
 use lib.Seq.{take-suc}
 use Rattle.lists.specs.Writes.{Wrote}
 use Rattle.lists.proofs.Writes.{◌⨾◌, as_long, same_bytes, wrote_none}
 use Rattle.llc_rule.specs.Records.{Record, bytes, all_bytes}
 use Rattle.llc_rule.proofs.Room.{all_bytes-append}
-use Rattle.llc_state.proofs.Maps.{map-append}
 
 module _ {A : Type 0} (f : A → Record) where
   -- The bytes of the records that f makes.

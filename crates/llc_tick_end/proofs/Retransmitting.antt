@@ -8,10 +8,11 @@ use borrow.Author.Tests.{lt-ltb, le-ltb}
 use lib.Dec.{ltb}
 use lib.ListN.{length, get_or, set, take, drop, replicate}
 use lib.Seq.{length-take-le, get_or-take}
+use Rattle.std.proofs.lemmas.Bool.{cond-true, cond-false}
 use Rattle.lists.specs.Lists.{Visit, ◌then◌}
 use Rattle.lists.specs.Writes.{Wrote}
 use Rattle.lists.proofs.Writes.{same_bytes}
-use Rattle.lists.proofs.Choices.{either, if-true, if-false}
+use Rattle.lists.proofs.Choices.{either}
 use Rattle.lists.proofs.Tests.{all-at}
 use Rattle.bits.specs.Bits.{bits}
 use Rattle.tdma_time.specs.Slots.{valid}
@@ -59,16 +60,16 @@ timed-receipt time p x = either (λ (e : Entry). e.sent.receipt ≡ x.sent.recei
 -- A message that stays, one that is handed down again, and one that leaves.
 module _ (time : TdmaTime) (t251 : ℕ) (ps : List ReceiptPlace) (e : Entry) where
   not-due : is_due time t251 e ≡ false → aged time t251 ps e ≡ stay ps e
-  not-due h = if-false (cond (ltb e.progress.retransmit_count 3) (resend ps e) (leave ps e)) (stay ps e) h
+  not-due h = cond-false _ (cond (ltb e.progress.retransmit_count 3) (resend ps e) (leave ps e)) (stay ps e) h
 
   due : is_due time t251 e ≡ true → aged time t251 ps e ≡ cond (ltb e.progress.retransmit_count 3) (resend ps e) (leave ps e)
-  due h = if-true (cond (ltb e.progress.retransmit_count 3) (resend ps e) (leave ps e)) (stay ps e) h
+  due h = cond-true _ (cond (ltb e.progress.retransmit_count 3) (resend ps e) (leave ps e)) (stay ps e) h
 
   again : is_due time t251 e ≡ true → e.progress.retransmit_count < 3 → aged time t251 ps e ≡ resend ps e
-  again h few = due h ∙ if-true (resend ps e) (leave ps e) (lt-ltb e.progress.retransmit_count 3 few)
+  again h few = due h ∙ cond-true _ (resend ps e) (leave ps e) (lt-ltb e.progress.retransmit_count 3 few)
 
   no_more : is_due time t251 e ≡ true → 3 ≤ e.progress.retransmit_count → aged time t251 ps e ≡ leave ps e
-  no_more h many = due h ∙ if-false (resend ps e) (leave ps e) (le-ltb e.progress.retransmit_count 3 many)
+  no_more h many = due h ∙ cond-false _ (resend ps e) (leave ps e) (le-ltb e.progress.retransmit_count 3 many)
 
 -- After visits to the first i messages of s, of which j stay: next is the state, and at the place behind what was written.
 pub record Passing (s : State) (store out₀ : List ℕ) (at₀ : ℕ) (next : State) (i j : ℕ) (out : List ℕ) (at : ℕ) : Type 0 where
@@ -97,6 +98,10 @@ at-join j p q r t h = rw (p, q, r, t) h
 abbrev held : State → ℕ → Entry → Entry
 held next i d = get_or next.outbound_messages i d
 
+-- How many messages there are.
+pub messages-count : (s : State) → s.n_messages ≤ 64 → length s.outbound_messages ≡ 64 → length (messages_of s) ≡ s.n_messages
+messages-count s few long = length-take-le s.n_messages s.outbound_messages (omega arith)
+
 pub passes : (s : State) (store out : List ℕ) (at : ℕ) → state_in_range s ≡ true → s.started ≡ true → length s.outbound_messages ≡ 64 → Passing s store out at s 0 0 out at
 passes s store out at r on l =
     record {
@@ -112,9 +117,6 @@ passes s store out at r on l =
     }
 
 module _ {s : State} {store out₀ : List ℕ} {at₀ : ℕ} {next : State} {i j : ℕ} {out : List ℕ} {at : ℕ} (h : Passing s store out₀ at₀ next i j out at) where
-  length-messages : length (messages_of s) ≡ s.n_messages
-  length-messages = length-take-le s.n_messages s.outbound_messages (omega (arith, h.count, h.long))
-
   receipts-are : h.visit.state ≡ next.receipts
   receipts-are = sym (ap (λ (t : State). t.receipts) h.same)
 
@@ -125,7 +127,7 @@ module _ {s : State} {store out₀ : List ℕ} {at₀ : ℕ} {next : State} {i j
     -- The message of a visit is in range.
     held_fits : message_in_range (held next i d) ≡ true
     held_fits =
-        let all = all-at message_in_range (messages_of s) i d (range-tells s h.range).messages (omega (arith, less, length-messages)) in
+        let all = all-at message_in_range (messages_of s) i d (range-tells s h.range).messages (omega (arith, less, messages-count s h.count h.long)) in
         ap message_in_range (sym element) ∙ all
 
     pub held-measures : Measures (held next i d)
@@ -163,7 +165,7 @@ module _ {s : State} {store out₀ : List ℕ} {at₀ : ℕ} {next : State} {i j
           subst
           (λ (t : Visit (List ReceiptPlace) Entry Entry). Walking (retransmission s.dltime s.t251) s.receipts (messages_of s) (i + 1) (◌then◌ h.visit t))
           one
-          (walks-on h.walking d (omega (arith, less, length-messages)))
+          (walks-on h.walking d (omega (arith, less, messages-count s h.count h.long)))
 
       none-more : Wrote out₀ at₀ (bytes_of (handed store) (h.visit.out ++ [])) out at
       none-more = same_bytes (ap (bytes_of (handed store)) (sym (append-nil h.visit.out))) h.wrote
@@ -252,7 +254,7 @@ module _ {s : State} {store out₀ : List ℕ} {at₀ : ℕ} {next : State} {i j
   module _ (last : s.n_messages ≤ i) where
     all-visited : h.visit ≡ retransmissions s
     unfolding retransmissions
-    all-visited = walked h.walking (omega (arith, last, length-messages))
+    all-visited = walked h.walking (omega (arith, last, messages-count s h.count h.long))
 
     pub all-wrote : Wrote out₀ at₀ (sent_bytes_of (bits store) (retransmissions s).out) out at
     unfolding sent_bytes_of
@@ -267,7 +269,7 @@ module _ {s : State} {store out₀ : List ℕ} {at₀ : ℕ} {next : State} {i j
         ≡ after_retransmissions s
     all-cleared {filled = filled} size is-empty are =
         let n : ℕ = s.n_messages in
-        let all : i ≡ n = omega (arith, last, h.walking.low, length-messages) in
+        let all : i ≡ n = omega (arith, last, h.walking.low, messages-count s h.count h.long) in
         let c : Compacting s.outbound_messages h.visit.stays n j next.outbound_messages = rw all at h.compacting in
         let es : List Entry = take j next.outbound_messages ++ (filled ++ drop (n - j) (drop j next.outbound_messages)) in
         ap (λ (t : State). put_messages t j es) h.same

@@ -5,8 +5,8 @@ use mathlib.Core.Path.{◌≡◌, ◌∙◌}
 use mathlib.Core.Bool.{Bool, true}
 use mathlib.Core.List.{List, [], ◌∷◌, map}
 use lib.ListN.{length, take, drop, length-map, length-take}
+use Rattle.std.proofs.lemmas.Bool.{and_parts}
 use Rattle.lists.specs.Lists.{all, All}
-use Rattle.lists.proofs.Choices.{both}
 use Rattle.llc_rule.specs.Limits.{output_bytes}
 use Rattle.llc_rule.specs.Messages.{Message}
 use Rattle.llc_rule.specs.Records.{all_bytes}
@@ -51,7 +51,7 @@ all_made :
     → All P (map g l)
 unfolding all
 all_made p P g f [] h = tt
-all_made p P g f (x ∷ l) h = let t = both {x = p x} {y = all p l} h in (f x t.0, all_made p P g f l t.1)
+all_made p P g f (x ∷ l) h = let t = and_parts (p x) (all p l) h in (f x t.0, all_made p P g f l t.1)
 
 small-entry : (store : List ℕ) (e : Entry) → Measures e → SmallSent (sent_in store e)
 unfolding sent_in frame_at

@@ -1,5 +1,6 @@
 // The second pass: the oldest waiting message of each address that has none under way is handed down.
 ghost use Rattle.std.specs.Prelude.{◌+◌, ◌≤◌, ◌≡◌, true, length};
+ghost use Rattle.std.specs.List.{list_any};
 ghost use Rattle.lists.specs.Lists.{all};
 ghost use Rattle.lists.specs.Writes.{Wrote};
 ghost use Rattle.bits.specs.Bits.{bits};
@@ -7,13 +8,20 @@ ghost use Rattle.llc_rule.specs.Limits.{store_bytes};
 ghost use Rattle.llc_state.specs.Ranges.{message_in_range};
 ghost use Rattle.llc_steps.specs.TickEnd.{first_sendings, after_sendings};
 ghost use Rattle.llc_steps.specs.States.{messages_of};
-ghost use Rattle.llc_tick_end.specs.Passes.{sent_bytes_of};
+ghost use Rattle.llc_tick_end.specs.Passes.{sent_bytes_of, of_ssi};
 
 use crate::messages::{put_message, submitted};
-use llc_state::State;
+use llc_state::{Entry, State};
 use tx_receipt::Mark;
 
-// Goes through the messages: one that waits is handed down unless its SSI has one under way.
+// Has one of the messages this SSI?
+fn has_ssi(messages: &[Entry], ssi: u32) -> bool
+    ensures { result ≡ list_any (of_ssi ssi) messages.now }
+{
+    messages.iter().any(|message| message.sent.ssi == ssi)
+}
+
+// Goes through the messages: one that waits is handed down unless an earlier one has its SSI.
 pub(crate) fn submit_free_messages_to_umac(
     state: &mut State,
     store: &[u8],
@@ -28,23 +36,15 @@ pub(crate) fn submit_free_messages_to_umac(
     ensures after { state.new ≡ after_sendings state.old }
     ensures wrote { Wrote out.old at (sent_bytes_of (bits store.now) (first_sendings state.old).out) out.new result }
 {
-    // The SSIs that have a message under way.
-    let mut blocked: [u32; 64] = [0; 64];
-    let mut n_blocked = 0;
     for i in 0..state.n_messages {
         let message = state.outbound_messages[i];
-        let receipt = message.sent.receipt as usize;
-        let ssi = message.sent.ssi;
-        if !message.progress.submitted_to_umac {
-            if blocked[..n_blocked].contains(&ssi) {
-                continue;
-            }
+        if !message.progress.submitted_to_umac
+            && !has_ssi(&state.outbound_messages[..i], message.sent.ssi)
+        {
             at = put_message(out, at, 1, &message, store);
-            state.mark_receipt(receipt, Mark::Reset);
+            state.mark_receipt(message.sent.receipt, Mark::Reset);
             state.outbound_messages[i] = submitted(message, message.progress.retransmit_count);
         }
-        blocked[n_blocked] = ssi;
-        n_blocked += 1;
     }
     at
 }

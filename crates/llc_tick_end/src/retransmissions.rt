@@ -24,10 +24,9 @@ fn overdue(dltime: TdmaTime, t251: u16, done: TdmaTime) -> bool
     requires done_value { valid done ≡ true }
     ensures { result ≡ is_overdue dltime t251 done }
 {
-    match dltime.diff(done) {
-        Ok(age) => (age < 0) | (t251 as i32 <= age),
-        Err(_) => true,
-    }
+    dltime
+        .diff(done)
+        .map_or(true, |age| age < 0 || t251 as i32 <= age)
 }
 
 // Is the receipt of a place taken, and was the message transmitted or discarded?
@@ -78,8 +77,8 @@ pub(crate) fn submit_retransmissions_to_umac(
     let mut kept = 0;
     for i in 0..n {
         let held = state.outbound_messages[i];
-        let receipt = held.sent.receipt as usize;
-        let mut e = timed(held, state.receipts[receipt], dltime);
+        let receipt = held.sent.receipt;
+        let mut e = timed(held, state.receipt_place(receipt), dltime);
         if is_due(&e, dltime, t251) {
             if e.progress.retransmit_count >= N252_BL_MAX_TLSDU_RETRANSMITS_ACKED {
                 state.mark_receipt(receipt, Mark::Lost);

@@ -2,26 +2,18 @@
 -- what an accepted outcome says of the question that it passed.
 use Prim.Native.Nat.{ℕ}
 use mathlib.Core.Path.{◌≡◌, ◌∙◌, refl, sym}
-use mathlib.Core.Bool.{Bool, true, false, not, ◌&&◌, false≢true}
-use borrow.Author.Tests.{not-true, not-false}
+use mathlib.Core.Bool.{Bool, true, false, not}
+use borrow.Author.Tests.{not-false}
 use native.Mathlib.Omega.{arith}
 use Rattle.questions.specs.Outcome.{Outcome, accepted, refused, ask}
 
 pub passed : {r v : Bool} → r ≡ v → not r ≡ false → v ≡ true
 passed {r} e left = sym e ∙ not-false r left
 
-pub failed : {r v : Bool} → r ≡ v → not r ≡ true → v ≡ false
-failed {r} e taken = sym e ∙ not-true r taken
-
 -- What an accepted outcome holds; d for a refusal.
 abbrev pub content : {A : Type 0} → A → Outcome A → A
 content d (accepted a) = a
 content d (refused n) = d
-
--- Two questions that were passed as one.
-pub both : (x y : Bool) → x && y ≡ true → (x ≡ true) × (y ≡ true)
-both true y h = (refl, h)
-both false y h = absurd (false≢true h)
 
 -- What holds of a refusal by its number, and of the rest where the question is passed, holds of the question with the rest.
 pub by-question : {A : Type 0} (P : Outcome A → Type 0) (n : ℕ) (b : Bool) {rest : Outcome A} → P (refused n) → (b ≡ true → P rest) → P (ask n b rest)
@@ -33,9 +25,6 @@ pub accepted-passed : {A : Type 0} (n : ℕ) (b : Bool) {x : A} {rest : Outcome 
 accepted-passed n true e = (refl, e)
 accepted-passed n false e = let z : ◌≡◌ {A = ℕ} 0 1 = cc in absurd (omega arith)
 
--- A question passed, and one failed.
+-- A question passed.
 pub ask-yes : {A : Type 0} (n : ℕ) {b : Bool} (o : Outcome A) → b ≡ true → ask n b o ≡ o
 ask-yes n o e = rw e
-
-pub ask-no : {A : Type 0} (n : ℕ) {b : Bool} (o : Outcome A) → b ≡ false → ask n b o ≡ refused n
-ask-no n o e = rw e

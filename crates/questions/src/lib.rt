@@ -9,62 +9,45 @@ use std::fmt;
 /// The first question that a call failed.
 #[derive(Clone, Copy, Debug, PartialEq, Eq)]
 pub enum Refusal {
-    /// 1: the state, the store or the output is not as it must be.
-    BadState,
-    /// 2: the lengths do not fill the call, or a spare bit is not zero.
-    Unfilled,
-    /// 3: the tag is not known.
-    UnknownTag,
-    /// 4: there was no start.
-    NotStarted,
-    /// 5: a value is out of range.
-    OutOfRange,
-    /// 6: the receipt is taken.
-    ReceiptTaken,
-    /// 7: no row is free.
-    NoRow,
-    /// 8: there is no place in the queue, or no room in the lent bytes.
-    NoRoom,
-    /// 9: the frame has fewer than four bits.
-    ShortFrame,
-    /// 10: the frame's type is none of the basic link's.
-    OtherType,
-    /// 11: the frame's header is cut short.
-    ShortHeader,
-    /// 12: the check is not right.
-    WrongCheck,
-    /// 13: all acknowledgements that may be due are due.
-    AcksFull,
-    /// 14: the receipt is not Transmitted, or no acknowledgement is expected.
-    NotAwaiting,
-    /// 15: the receipt is not Pending, or its message was not submitted.
-    NotPending,
-    /// 16: the receipt is not taken, its message is held, or it is not final.
-    NotFinal,
+    /// The state, the store or the output is not as it must be.
+    BadState = 1,
+    /// The lengths do not fill the call, or a spare bit is not zero.
+    Unfilled = 2,
+    /// The tag is not known.
+    UnknownTag = 3,
+    /// There was no start.
+    NotStarted = 4,
+    /// A value is out of range.
+    OutOfRange = 5,
+    /// The receipt is taken.
+    ReceiptTaken = 6,
+    /// No row is free.
+    NoRow = 7,
+    /// There is no place in the queue, or no room in the lent bytes.
+    NoRoom = 8,
+    /// The frame has fewer than four bits.
+    ShortFrame = 9,
+    /// The frame's type is none of the basic link's.
+    OtherType = 10,
+    /// The frame's header is cut short.
+    ShortHeader = 11,
+    /// The check is not right.
+    WrongCheck = 12,
+    /// All acknowledgements that may be due are due.
+    AcksFull = 13,
+    /// The receipt is not Transmitted, or no acknowledgement is expected.
+    NotAwaiting = 14,
+    /// The receipt is not Pending, or its message was not submitted.
+    NotPending = 15,
+    /// The receipt is not taken, its message is held, or it is not final.
+    NotFinal = 16,
 }
 
 impl From<Refusal> for u8 {
     ghost from_gives = { λ r n. n ≡ number_of r };
 
     fn from(r: Refusal) -> u8 {
-        match r {
-            Refusal::BadState => 1,
-            Refusal::Unfilled => 2,
-            Refusal::UnknownTag => 3,
-            Refusal::NotStarted => 4,
-            Refusal::OutOfRange => 5,
-            Refusal::ReceiptTaken => 6,
-            Refusal::NoRow => 7,
-            Refusal::NoRoom => 8,
-            Refusal::ShortFrame => 9,
-            Refusal::OtherType => 10,
-            Refusal::ShortHeader => 11,
-            Refusal::WrongCheck => 12,
-            Refusal::AcksFull => 13,
-            Refusal::NotAwaiting => 14,
-            Refusal::NotPending => 15,
-            Refusal::NotFinal => 16,
-        }
+        r as u8
     }
 }
 

@@ -1,6 +1,6 @@
 -- Laws of cutting bytes into records.
 use Prim.Native.Nat.{ℕ, zero, suc, ◌+◌, ◌-◌, ◌*◌, ◌≤◌, ◌<◌, min}
-use native.Mathlib.Omega.{arith, min_cases}
+use native.Mathlib.Omega.{arith}
 use native.Mathlib.Numerals.{one-add}
 use mathlib.Core.Path.{◌≡◌, ◌∙◌, refl, sym, ap}
 use mathlib.Core.Logic.{◌≢◌}
@@ -9,8 +9,9 @@ use mathlib.Core.List.{List, [], ◌∷◌, ◌++◌, append_assoc, append-nil}
 use borrow.Author.Tests.{eq-eqb, ne_eqb}
 use lib.Dec.{eqb}
 use lib.ListN.{length, get_or, take, drop, length-drop, drop_of_length-le}
-use lib.Seq.{take-length, take_all, take-add, drop-cons, drop-drop}
-use Rattle.lists.proofs.Choices.{by-choice}
+use lib.Seq.{take-add, drop-cons, drop-drop}
+use Rattle.std.proofs.lemmas.List.{take_rest, take_min, drop_min}
+use Rattle.std.proofs.lemmas.Bool.{cond_both}
 use Rattle.llc_rule.specs.Calls.{from_bytes}
 use Rattle.hex_lines.specs.Lines.{on_first}
 use Rattle.record_lines.specs.Split.{behind_tag, cut, split}
@@ -38,7 +39,7 @@ pub nothing-cut : (n : ℕ) (bs : List ℕ) → before [] (cut n bs) ≡ cut n b
 unfolding cut
 nothing-cut n [] = refl
 nothing-cut zero (b ∷ bs) =
-    by-choice (λ (xs : List (List ℕ)). before [] xs ≡ xs) (eqb b 0x01)
+    cond_both (eqb b 0x01) _ _ (λ (xs : List (List ℕ)). before [] xs ≡ xs)
     (λ t. refl)
     (λ t. nothing-before b (cut (behind_tag bs) bs))
 nothing-cut (suc n) (b ∷ bs) = nothing-before b (cut n bs)
@@ -89,23 +90,10 @@ value_there (a ∷ (b ∷ (c ∷ l))) h = omega arith
 abbrev behind_field : List ℕ → ℕ
 behind_field l = min (1 + behind_tag (drop 1 l)) (length l)
 
--- The first n elements, or all if there are fewer, and those behind them.
-front : (n : ℕ) (l : List ℕ) → take (min n (length l)) l ≡ take n l
-front n l =
-    min_cases n (length l) (take (min n (length l)) l ≡ take n l)
-    (λ h e. rw e)
-    (λ h e. rw e (take-length l ∙ sym (take_all n l h)))
-
-back : (n : ℕ) (l : List ℕ) → drop (min n (length l)) l ≡ drop n l
-back n l =
-    min_cases n (length l) (drop (min n (length l)) l ≡ drop n l)
-    (λ h e. rw e)
-    (λ h e. rw e (drop_of_length-le l {i = length l} (omega arith) ∙ sym (drop_of_length-le l {i = n} h)))
-
 split-field : (l : List ℕ) (n : ℕ) → 0 < length l → n ≡ behind_field l → split l ≡ before (take n l) (cut 0 (drop n l))
 split-field [] n h e = absurd (omega arith)
 split-field (tag ∷ bs) n h e =
-    rw (e, front (1 + behind_tag bs) (tag ∷ bs), back (1 + behind_tag bs) (tag ∷ bs), one-add (behind_tag bs)) (split-on tag bs)
+    rw (e, take_min (1 + behind_tag bs) (tag ∷ bs), drop_min (1 + behind_tag bs) (tag ∷ bs), one-add (behind_tag bs)) (split-on tag bs)
 
 -- The place behind a record ------------------------------------------------------------------------------------------------
 
@@ -123,9 +111,10 @@ pub next_field :
     → Under l i
     → i < length l
     → get_or l i 0 ≢ 0x01
-    → n ≡ behind_field (drop i l)
+    → n ≡ behind_field (take (length l - i) (drop i l))
     → Under l (i + n)
-next_field {l} {i} n u h s e =
+next_field {l} {i} n u h s f =
+    let e : n ≡ behind_field (drop i l) = rw (take_rest l i) at f in
     let long : length (drop i l) ≡ length l - i = length-drop i l in
     let same : cut 0 (drop i l) ≡ split (drop i l) =
     rw (drop-cons l i 0 h) (cut-same (get_or l i 0) (drop (suc i) l) (ne_eqb (get_or l i 0) 0x01 s)) in
@@ -147,9 +136,9 @@ ended {l} {i} u e =
       cuts = u.cuts ∙ ap (before (take i l)) e ∙ rw (append-nil (take i l));
     }
 
-pub next-record : {l : List ℕ} {i : ℕ} → Under l i → i < length l → get_or l i 0 ≡ 0x01 → Ends l i
-next-record {l} {i} u h s =
+pub next_record : {l : List ℕ} {i : ℕ} → Under l i → i < length l → get_or l i 0 ≡ 0x01 → Ends l i
+next_record {l} {i} u h s =
     ended u (rw (drop-cons l i 0 h) (cut-next (get_or l i 0) (drop (suc i) l) (eq-eqb (get_or l i 0) 0x01 s)))
 
-pub last-record : {l : List ℕ} {i : ℕ} → Under l i → length l ≤ i → Ends l i
-last-record {l} {i} u h = ended u (rw (drop_of_length-le l h) cut-none)
+pub last_record : {l : List ℕ} {i : ℕ} → Under l i → length l ≤ i → Ends l i
+last_record {l} {i} u h = ended u (rw (drop_of_length-le l h) cut-none)

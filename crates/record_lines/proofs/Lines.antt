@@ -6,7 +6,7 @@ use mathlib.Core.List.{List, [], ◌∷◌, ◌++◌, append_assoc, append-nil}
 use lib.ListN.{length, take, drop, length-drop}
 use lib.Seq.{length-take-le}
 use Rattle.lists.specs.Writes.{Wrote}
-use Rattle.lists.proofs.Writes.{◌⨾◌, as_long, wrote_none}
+use Rattle.lists.proofs.Writes.{◌⨾◌, wrote_none}
 use Rattle.hex_lines.specs.Lines.{line_end, hex_of}
 use Rattle.hex_lines.proofs.Writes.{line-length}
 use Rattle.record_lines.specs.Split.{split, in_lines, lines_of_records}
@@ -21,9 +21,6 @@ pub record Written (l : List ℕ) (at : ℕ) (records : List ℕ) (m rest : List
 
 pub none_yet : (l : List ℕ) (at : ℕ) (records : List ℕ) → Written l at records l records at
 none_yet l at records = record { room = omega arith; vs = []; wrote = wrote_none l at; left = refl }
-
-pub written_long : {l : List ℕ} {at : ℕ} {records m rest : List ℕ} {p : ℕ} → Written l at records m rest p → length m ≡ length l
-written_long w = as_long w.wrote
 
 pub one_more :
     {l : List ℕ} {at : ℕ} {records m k rest line behind : List ℕ} {p e q : ℕ}

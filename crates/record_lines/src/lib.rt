@@ -23,6 +23,7 @@ fn field_end(bytes: &[u8]) -> usize
 }
 
 /// The place behind the record that bytes begin with.
+#[tactic(auto, using(crate::proofs::Cuts::first_field, crate::proofs::Cuts::next_field, crate::proofs::Cuts::next_record, crate::proofs::Cuts::last_record))]
 pub fn record_end(records: &[u8]) -> usize
     requires { 0 < length records.now }
     ensures { Ends records.now result }
@@ -36,6 +37,7 @@ pub fn record_end(records: &[u8]) -> usize
 }
 
 /// Writes records as a line for each, and gives the place behind them.
+#[tactic(auto, using(crate::proofs::Lines::none_yet, crate::proofs::Lines::one_more))]
 pub fn put_records(text: &mut [u8], at: usize, records: &[u8]) -> usize
     requires { at + 3 * length records.now ≤ length text.old }
     ensures wrote { Wrote text.old at (lines_of_records records.now) text.new result }

@@ -18,10 +18,10 @@ len-fits s store out (accepted k) =
     omega (arith, length-append (all_bytes k.records) (drop (length (all_bytes k.records)) out))
 len-fits s store out (refused n) = omega arith
 
-pub told-fits :
+pub told_fits :
     (s : State) (store out bytes : List ℕ) {r : Answer} {after left : List ℕ}
     → effect r after left ≡ call_of s store out bytes
     → r.len ≤ length left
 unfolding call_of
-told-fits s store out bytes e =
+told_fits s store out bytes e =
     subst (λ (x : Effect). x.answer.len ≤ length x.out) (sym e) (len-fits s store out (outcome_of s store out bytes))

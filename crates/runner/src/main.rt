@@ -3,28 +3,14 @@
 #![tactic(auto)]
 
 mod answers;
-mod buffers;
 mod chunks;
 mod input;
-mod output;
+mod run;
+mod text;
 
-use buffers::{CALL, CHUNK, TEXT, zeros};
-use llc::{OUTPUT, STORE};
+use run::Run;
 
 fn main(rt: HostRuntime) {
-    let mut chunk = zeros::<CHUNK>();
-    let mut bytes = zeros::<CALL>();
-    let mut store = zeros::<STORE>();
-    let mut out = zeros::<OUTPUT>();
-    let mut text = zeros::<TEXT>();
     // Where an answer cannot be written the run ends.
-    let _ = input::run(
-        rt.stdin(),
-        rt.stdout(),
-        &mut chunk,
-        &mut bytes,
-        &mut store,
-        &mut out,
-        &mut text,
-    );
+    let _ = Run::new().run(rt.stdin(), rt.stdout());
 }

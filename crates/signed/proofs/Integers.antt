@@ -1,16 +1,12 @@
--- Whole numbers with sign: a difference by its two cases, and what the code's casts and sums at an i32 and an i64 ask.
-use Prim.Native.Nat.{ℕ, zero, suc, ◌+◌, ◌-◌, ◌*◌, ◌^◌, ◌≤◌, ◌<◌}
-use native.Mathlib.Nat.{zero-mul, lt_of_lt_of_le}
+-- Whole numbers with sign: a difference by its two cases, and what a cast to an unsigned type asks.
+use Prim.Native.Nat.{ℕ, zero, suc, ◌+◌, ◌-◌, ◌*◌, ◌≤◌, ◌<◌}
+use native.Mathlib.Nat.{zero-mul}
 use native.Mathlib.Omega.{arith}
 use mathlib.Core.Path.{◌≡◌, refl, ap}
 use mathlib.Core.Bool.{Bool, true, false, cond}
 use borrow.Author.Tests.{ltb-true, ltb-false}
-use lib.Dec.{T, ltb}
-use lib.Signed.{mag, non_neg}
-use lib.IntN.{ℤ, pos, negsuc, nat_abs, sub_ℕ, neg_ℤ, ◌-ℤ◌, ◌*ℤ◌}
-use mir.Syntax.{Width, w32}
-use mir.Val.{bits, Fits, to_z, of_z}
-use mir.Facts.{to_z-of_z}
+use lib.Dec.{ltb}
+use lib.IntN.{ℤ, pos, negsuc, sub_ℕ, neg_ℤ, ◌-ℤ◌, ◌*ℤ◌}
 
 -- What holds of a - b, shown where b is at most a and where a is below b.
 pub by_order : (P : ℤ → Type 0) (a b : ℕ) → (b ≤ a → P (pos (a - b))) → (a < b → P (negsuc (b - suc a))) → P (sub_ℕ a b)
@@ -38,16 +34,8 @@ neg-times (suc q) w = refl
 pub sub-ge : (a b : ℕ) → b ≤ a → sub_ℕ a b ≡ pos (a - b)
 sub-ge a b h = by_order (λ z. z ≡ pos (a - b)) a b (λ _. refl) (λ l. absurd (omega arith))
 
--- An i32 read back from its bits.
-pub same-i32 : (z : ℤ) → mag z < 2 ^ 31 → to_z w32 (of_z w32 z) ≡ z
-same-i32 z h = to_z-of_z {w = w32} (record { sfits = h })
-
 -- z is a number without sign, below b.
 pub record Natural (z : ℤ) (b : ℕ) : Type 0 where
   pub by : ℕ
   pub is : z ≡ pos by
   pub below : by < b
-
--- One below 2 ^ bits w can be cast to an unsigned type of width w.
-pub natural-cast : (w : Width) {z : ℤ} {b : ℕ} → Natural z b → b ≤ 2 ^ bits w → T (non_neg z) × Fits w (nat_abs z)
-natural-cast w n h = rw n.is (tt, record { fits = lt_of_lt_of_le n.below h })

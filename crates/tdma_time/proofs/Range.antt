@@ -5,7 +5,7 @@ use mathlib.Core.Path.{◌≡◌}
 use mathlib.Core.Bool.{true, ◌&&◌}
 use borrow.Author.Tests.{leb-true, le-leb}
 use lib.Dec.{leb}
-use Rattle.questions.proofs.Asked.{both}
+use Rattle.std.proofs.lemmas.Bool.{and_parts}
 use Rattle.tdma_time.specs.Slots.{W, valid, slots}
 use Rattle.tdma_time.specs.declared.TdmaTime.{TdmaTime}
 
@@ -27,12 +27,12 @@ in_range a v =
     let b₄ = b₃ && leb a.f 18 in
     let b₅ = b₄ && leb 1 a.m in
     let b₆ = b₅ && leb a.m 60 in
-    let v₇ = both b₆ (leb a.h 65535) v in
-    let v₆ = both b₅ (leb a.m 60) v₇.0 in
-    let v₅ = both b₄ (leb 1 a.m) v₆.0 in
-    let v₄ = both b₃ (leb a.f 18) v₅.0 in
-    let v₃ = both b₂ (leb 1 a.f) v₄.0 in
-    let v₂ = both b₁ (leb a.t 4) v₃.0 in
+    let v₇ = and_parts b₆ (leb a.h 65535) v in
+    let v₆ = and_parts b₅ (leb a.m 60) v₇.0 in
+    let v₅ = and_parts b₄ (leb 1 a.m) v₆.0 in
+    let v₄ = and_parts b₃ (leb a.f 18) v₅.0 in
+    let v₃ = and_parts b₂ (leb 1 a.f) v₄.0 in
+    let v₂ = and_parts b₁ (leb a.t 4) v₃.0 in
     record {
       t-low = leb-true 1 a.t v₂.0;
       t-high = leb-true a.t 4 v₂.1;

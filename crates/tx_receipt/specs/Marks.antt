@@ -8,6 +8,7 @@ use Rattle.tx_receipt.specs.declared.TxState.TheVariants.{Pending, Discarded, Tr
 use Rattle.tx_receipt.specs.declared.TxReceipt.{TxReceipt}
 use Rattle.tx_receipt.specs.declared.Mark as D
 
+-- The marks by names of their own. They are no constructors: a definition by cases matches on D.Mark's, as `lost` would match any mark.
 abbrev pub Mark : Type 0
 Mark = D.Mark
 

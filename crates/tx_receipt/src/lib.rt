@@ -16,15 +16,15 @@ pub mod lent;
 #[derive(Clone, Copy, Debug, PartialEq, Eq, PartialOrd, Ord)]
 pub enum TxState {
     /// The message is queued and not yet sent over the air.
-    Pending,
+    Pending = 0,
     /// The lower layer had to discard the message.
-    Discarded,
+    Discarded = 1,
     /// The lower layer has sent the message over the air.
-    Transmitted,
+    Transmitted = 2,
     /// The message was transmitted and no acknowledgement came.
-    Lost,
+    Lost = 3,
     /// The remote side has acknowledged receipt.
-    Acknowledged,
+    Acknowledged = 4,
 }
 
 /// A mark on a receipt.
@@ -71,28 +71,13 @@ impl From<TxState> for u8 {
 
     /// The number of the state.
     fn from(state: TxState) -> u8 {
-        match state {
-            TxState::Pending => 0,
-            TxState::Discarded => 1,
-            TxState::Transmitted => 2,
-            TxState::Lost => 3,
-            TxState::Acknowledged => 4,
-        }
+        state as u8
     }
 }
 
 impl fmt::Display for TxState {
     fn fmt<W: fmt::Write>(&self, f: &mut fmt::Formatter<W>) -> fmt::Result {
         write!(f, "{} {:?}", u8::from(*self), self)
-    }
-}
-
-impl TxState {
-    /// The state with a number; Acknowledged for each number from 4 on.
-    pub fn from_raw(v: u8) -> TxState
-        ensures { result ≡ numbered v }
-    {
-        TxState::from(v)
     }
 }
 

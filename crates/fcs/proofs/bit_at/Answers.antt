@@ -3,7 +3,7 @@ use native.Mathlib.Omega.{arith}
 use mathlib.Core.Path.{◌≡◌, ◌∙◌, sym}
 use lib.ListN.{length, get_or}
 use Rattle.bits.proofs.Laws.{to_bits-mod, bits-part}
-use Rattle.fcs.proofs.Parts.{cut-bits}
+use Rattle.bits.proofs.PartLaws.{cut-bits}
 use Rattle.fcs.proofs.bit_at.Goals as goal
 
 pub returns-clause-result_value : goal.returns-clause-result_value

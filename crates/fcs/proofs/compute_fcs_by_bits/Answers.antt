@@ -2,7 +2,7 @@ use mathlib.Core.Path.{◌∙◌, sym, ap}
 use Rattle.bits.specs.Bits.{bits}
 use Rattle.bits.specs.Parts.{bits_of}
 use Rattle.fcs.specs.Fcs.{start}
-use Rattle.fcs.proofs.Parts.{length-bits_of, all-bits_of}
+use Rattle.bits.proofs.PartLaws.{length-bits_of, all-bits_of}
 use Rattle.fcs.proofs.Computed.{sum-fed, computed-by}
 use Rattle.fcs.proofs.compute_fcs_by_bits.Goals as goal
 

@@ -3,7 +3,7 @@ use mathlib.Core.Path.{◌∙◌, sym, ap, ap₂}
 use Rattle.bits.specs.Parts.{bits_of}
 use Rattle.fcs.specs.Register.{fed}
 use Rattle.fcs.proofs.Register.{fed-none, fed-more}
-use Rattle.fcs.proofs.Parts.{all-bits_of, whole-front}
+use Rattle.bits.proofs.PartLaws.{all-bits_of, whole-front}
 use Rattle.fcs.proofs.fed_bits.Goals as goal
 
 -- After i bits the loop has fed the first i of them.

@@ -11,4 +11,4 @@ returns c =
     let byte : ℕ = c.args.byte in
     sym
     (fed-step 24 8 crc byte refl
-    ∙ ap (bit_xor (crc * 256 % 2 ^ 32)) (sym (c.requires.ruled.entries (bit_xor (crc / 2 ^ 24) byte) (xor_lt 8 (crc / 2 ^ 24) byte (omega arith) c.requires.byte_bound))))
+    ∙ ap (bit_xor (crc * 256 % 2 ^ 32)) (sym (c.requires.entries (bit_xor (crc / 2 ^ 24) byte) (xor_lt 8 (crc / 2 ^ 24) byte (omega arith) (omega arith)))))

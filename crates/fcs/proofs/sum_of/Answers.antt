@@ -6,7 +6,7 @@ use Rattle.fcs.specs.Fcs.{start}
 use Rattle.fcs.specs.Polynomials.{plus, divisor, rest}
 use Rattle.fcs.specs.Register.{fed, entry}
 use Rattle.fcs.proofs.Register.{fed-cut}
-use Rattle.fcs.proofs.Parts.{length-bits_of, all-bits_of}
+use Rattle.bits.proofs.PartLaws.{length-bits_of, all-bits_of}
 use Rattle.fcs.proofs.Computed.{sum-fed}
 use Rattle.fcs.proofs.Table.{ruled}
 use Rattle.fcs.proofs.sum_of.Goals as goal

@@ -3,23 +3,20 @@ use mathlib.Core.Path.{ap}
 use Rattle.bits.specs.Bits.{value}
 use Rattle.bits.specs.Parts.{bits_of}
 use Rattle.bits.proofs.Bytes.{value-nil, value-more}
-use Rattle.fcs.proofs.Parts.{whole-front}
+use Rattle.bits.proofs.PartLaws.{whole-front}
 use Rattle.fcs.proofs.word_of.Goals as goal
 
 pub returns : goal.returns
 returns c =
     let p = c.args.part in
     let m = bits_of p in
-    let a = c.byte_at-a in
-    let b = c.byte_at-b in
-    let d = c.byte_at-c in
-    let g = c.byte_at-d in
     omega (
       arith,
+      c.from_be_bytes.ensures,
       value-nil,
-      value-more m 0 0 a.result a.ensures.upper_bound a.ensures.result_value,
-      value-more m 0 8 b.result b.ensures.upper_bound b.ensures.result_value,
-      value-more m 0 16 d.result d.ensures.upper_bound d.ensures.result_value,
-      value-more m 0 24 g.result g.ensures.upper_bound g.ensures.result_value,
+      value-more m 0 0 c.byte.result (omega arith) c.byte.ensures,
+      value-more m 0 8 c.byte-2.result (omega arith) c.byte-2.ensures,
+      value-more m 0 16 c.byte-3.result (omega arith) c.byte-3.ensures,
+      value-more m 0 24 c.byte-4.result (omega arith) c.byte-4.ensures,
       ap value (whole-front p 32 (omega (arith, c.requires))),
     )

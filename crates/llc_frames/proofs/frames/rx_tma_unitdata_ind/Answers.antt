@@ -6,7 +6,8 @@ use Rattle.llc_pdus.specs.Received.{Received}
 use Rattle.llc_calls.specs.Decoded.{frame_of}
 use Rattle.llc_steps.specs.Answers.{answered, WithAnyStore}
 use Rattle.llc_steps.specs.Calls.{on_received}
-use Rattle.llc_frames.proofs.Paths.{frame_small, read-refused, handed-back, never-refused}
+use Rattle.llc_received.proofs.SentUp.{frame_small}
+use Rattle.llc_frames.proofs.Paths.{read-refused, handed-back, never-refused}
 use Rattle.llc_frames.proofs.frames.rx_tma_unitdata_ind.Goals as goal
 
 pub returns-in_err-pdu : goal.returns-in_err-pdu

@@ -9,7 +9,8 @@ use Rattle.bitbuffer.specs.declared.BitBuffer.{BitBuffer}
 use Rattle.bits.proofs.Laws.{to_bits-value, value-below}
 use Rattle.bits.specs.Bits.{to_bits, bits, splice}
 use Rattle.llc_pdus.specs.Headers.{header}
-use Rattle.llc_pdus.proofs.Framing.{all-header, header-small}
+use Rattle.llc_pdus.proofs.Framing.{all-header}
+use Rattle.llc_pdus.proofs.Laws.{header-short}
 use Rattle.llc_pdus.proofs.Pdu.put_header.Goals as goal
 
 pub returns : goal.returns
@@ -21,6 +22,6 @@ returns c =
     let v : c.header_value.result < 2 ^ size.result =
     rw (c.header_value.ensures, size.ensures) (value-below (header p) (all-header p)) in
     ap (λ (e : Effect BitBuffer). e.bits) c.write_bits.ensures
-    ∙ written-inside w (bits a.out.now) c.header_value.result size.result (omega arith) (omega (arith, header-small p)) v (omega arith)
+    ∙ written-inside w (bits a.out.now) c.header_value.result size.result (omega arith) (omega (arith, header-short p)) v (omega arith)
     ∙ ap (λ (t : List ℕ). splice (bits a.out.now) 0 t)
     (ap₂ to_bits size.ensures c.header_value.ensures ∙ to_bits-value (header p) (all-header p))

@@ -5,6 +5,7 @@ use mathlib.Core.Bool.{Bool, cond}
 use mathlib.Core.List.{List}
 use lib.ListN.{length, take, drop}
 use Rattle.std.proofs.Common.{rules}
+use Rattle.std.proofs.lemmas.List.{take_rest}
 use Rattle.bits.specs.Bits.{bits}
 use Rattle.fcs.specs.Answers as Fcs
 use Rattle.fcs.specs.Fcs.{fcs_bits}
@@ -17,7 +18,7 @@ use Rattle.llc_pdus.specs.Sdus.{sdu_at, header_end}
 use Rattle.llc_pdus.specs.declared.headers.HeaderEnd.{HeaderEnd}
 use Rattle.llc_pdus.specs.declared.Pdu.{Pdu}
 use Rattle.llc_pdus.specs.declared.Sdu.{Sdu}
-use Rattle.llc_pdus.proofs.Received.{apart, lent, check_behind, ends-inside, unchecked, right, long, wrong, refused-so}
+use Rattle.llc_pdus.proofs.Received.{apart, check_behind, unchecked, right, wrong, refused-so}
 use Rattle.llc_pdus.proofs.reading.from_bitbuf.Goals as goal
 
 -- The SDU ends m bits before the end of the frame.
@@ -34,7 +35,7 @@ answer :
     → o ≡ check_behind f p (n - length (header p))
 answer f n k p e asked at size =
     asked
-    ∙ ap (λ (l : List ℕ). Fcs.check (bits l) e.bits (n - k)) (lent f e.byte)
+    ∙ ap (λ (l : List ℕ). Fcs.check (bits l) e.bits (n - k)) (take_rest f e.byte)
     ∙ ap (λ (x : HeaderEnd). Fcs.check (bits (drop x.byte f)) x.bits (n - k)) at
     ∙ ap (λ (k : ℕ). check_behind f p (n - k)) size
 

@@ -1,9 +1,5 @@
-use Rattle.llc_queues.proofs.Shifting.{taken-out, length-out}
+use Rattle.llc_queues.proofs.Shifting.{taken-out}
 use Rattle.llc_queues.proofs.updates.take_out.Goals as goal
-
-pub returns-clause-count : goal.returns-clause-count
-returns-clause-count g c =
-    length-out c.args.n.now c.args.i c.args.elements.now c.requires.i_bound c.requires.n_bound
 
 pub returns-clause-after : goal.returns-clause-after
 returns-clause-after g c =

@@ -11,6 +11,6 @@ pub returns-in_err-get-clause-after : goal.returns-in_err-get-clause-after
 returns-in_err-get-clause-after c =
     let s = c.args.state.now in
     let acks = s.scheduled_out_acks in
-    let long : length (take s.n_acks acks) ≡ s.n_acks = ap length (sym c.in_use.ensures.part) ∙ c.in_use.ensures.count in
-    let none : length (take s.n_acks acks) ≤ c.args.i = omega (arith, long, c.in_use.ensures.count, c.in_err-get.ensures.lookup) in
+    let long : length (take s.n_acks acks) ≡ s.n_acks = rw c.acks.ensures.part at c.acks.ensures.count in
+    let none : length (take s.n_acks acks) ≤ c.args.i = omega (arith, long, c.acks.ensures.count, c.in_err-get.ensures.lookup) in
     sym (ap (with_acks s) (none-out s.n_acks c.args.i acks none) ∙ same-acks s (omega (arith, long, length-take s.n_acks acks)))

@@ -1,19 +1,15 @@
-use Rattle.std.proofs.Common.{◌≡◌, ◌∙◌, ◌*◌, ◌/◌, ℕ, List, get_or, Fits, w8, ap, arith, rules}
-use Rattle.lists.proofs.Writes.{same_bytes}
-use Rattle.bits.specs.Bits.{bits, part, splice}
+use Rattle.std.proofs.Common.{◌≡◌, ◌∙◌, ◌/◌, List, ℕ, length, arith}
 use Rattle.bits.specs.Parts.{bits_of}
-use Rattle.llc_records.proofs.Parts.{bits-long, pack-whole, wrote-packed}
+use Rattle.bits.proofs.PartLaws.{length-bits_of}
+use Rattle.llc_rule.specs.Records.{pack}
+use Rattle.llc_rule.proofs.Records.{length-pack}
+use Rattle.llc_records.proofs.Parts.{copied, packed_by_bits}
 use Rattle.llc_records.proofs.fields.put_whole.Goals as goal
 
 pub returns : goal.returns
 returns c =
     let a = c.args in
-    let k : ℕ = a.bits.len / 8 in
+    let m = c.copy_bytes.new.dst in
     let x : List ℕ = bits_of a.bits in
-    let whole : 8 * k ≡ a.bits.len = omega arith in
-    let before : (i : ℕ) → Fits w8 (get_or a.out.now i 0) = search rules in
-    let after : (i : ℕ) → Fits w8 (get_or c.copy_bytes.new.dst i 0) = search rules in
-    same_bytes (pack-whole k x (bits-long a.bits ∙ omega arith))
-    (wrote-packed a.out.now c.copy_bytes.new.dst x a.at k (λ i. (before i).fits) (λ i. (after i).fits) (search rules) c.requires.len_in_bounds
-    (bits-long a.bits ∙ omega arith)
-    (c.copy_bytes.ensures ∙ ap (λ (n : ℕ). splice (bits a.out.now) (8 * a.at) (part (bits a.bits.bytes.now) a.bits.place n)) whole))
+    let long : length (pack x) ≡ a.bits.len / 8 = length-pack x ∙ omega (arith, length-bits_of a.bits) in
+    rw long at (copied a.out.now (pack x) m a.at (omega (arith, long)) (packed_by_bits _ m _ x (λ i. (c.type_inv.out i).fits) c.copy_bytes.ensures))

@@ -3,27 +3,19 @@ use native.Mathlib.Omega.{arith}
 use lib.ListN.{length}
 use Rattle.std.proofs.lemmas.Bool.Decides.{nat_tests}
 use Rattle.std.proofs.lemmas.Result.{err_from_is_err_and}
+use Rattle.lists.specs.Lists.{others}
 use Rattle.bits.specs.Bits.{bits}
 use Rattle.llc_calls.specs.Decoded.{request_of}
 use Rattle.llc_state.proofs.InRange.{range-tells}
-use Rattle.llc_requests.proofs.Asked.{as-asked, refuses, data-6, data-7, row-is, data-8, data-acknowledged, data-full, data-with, data-without, Stolen, stolen-due, none-stolen}
-use Rattle.llc_requests.proofs.Due.{held-then}
-use Rattle.llc_requests.proofs.Puts.{allowed}
+use Rattle.llc_steps.specs.States.{acks_of}
+use Rattle.llc_requests.proofs.Asked.{as-asked, refuses, data-6, data-7, data-8, data-acknowledged, data-full, data-with, data-without, stolen, Stolen, stolen-due, none-stolen}
 use Rattle.llc_requests.proofs.requests.rx_tla_tldata_req_bl.Goals as goal
 use Rattle.llc_requests.proofs.requests.rx_tla_tldata_req_bl.Goals.{then-steals, else-steals}
-
-pub bounds-state-q : goal.bounds-state-q
-bounds-state-q c =
-    (allowed c.args.q.now c.requires.q_value).receipt
 
 pub returns-then-state-q : goal.returns-then-state-q
 unfolding request_of
 returns-then-state-q c =
     refuses (data-6 (request_of c.args.q.now) c.args.state.now (bits c.args.store.now) c.if-state-q.true)
-
-pub send_seq_row-requires : goal.send_seq_row-requires
-send_seq_row-requires c =
-    (range-tells c.args.state.now c.requires.state_value).head.rows
 
 pub returns-in_err-row : goal.returns-in_err-row
 unfolding request_of
@@ -40,19 +32,6 @@ returns-then-state-ge64 c =
     (data-8 (request_of c.args.q.now) c.args.state.now (bits c.args.store.now) c.if-state-q.false (grind (arith, nat_tests))
     c.in_ok-row.ensures.place (omega arith))
 
-pub put_acknowledged-requires : goal.put_acknowledged-requires
-unfolding request_of
-put_acknowledged-requires c =
-    record {
-      state_value = c.requires.state_value;
-      store_len = c.requires.store_len;
-      q_value = c.requires.q_value;
-      row_value = row-is (request_of c.args.q.now) c.args.state.now (bits c.args.store.now) c.if-state-q.false (grind (arith, nat_tests)) c.in_ok-row.ensures.place;
-      row_bound = c.in_ok-row.ensures.bound.1;
-      acks_held = omega (arith, (range-tells c.args.state.now c.requires.state_value).head.acks);
-      n_messages_bound = omega arith;
-    }
-
 pub returns-then-not-steals : goal.returns-then-not-steals
 unfolding request_of
 returns-then-not-steals c =
@@ -66,25 +45,6 @@ unfolding request_of
 returns-then-state-ge32 c =
     refuses
     (data-full (request_of c.args.q.now) c.args.state.now (bits c.args.store.now) c.if-state-q.false (grind (arith, nat_tests)) c.if-state-ge32.true)
-
-pub take_due_ack-due-requires : goal.take_due_ack-due-requires
-take_due_ack-due-requires c =
-    let h = (range-tells c.args.state.now c.requires.state_value).head in record {
-      n_acks_bound = h.acks;
-      acks_held = omega (arith, h.acks);
-    }
-
-pub put_unacknowledged-requires-clause-n_messages_bound : goal.put_unacknowledged-requires-clause-n_messages_bound
-put_unacknowledged-requires-clause-n_messages_bound c =
-    grind (arith, (range-tells c.args.state.now c.requires.state_value).head.messages)
-
-pub put_unacknowledged-requires-in-None-clause-n_messages_bound : goal.put_unacknowledged-requires-in-None-clause-n_messages_bound
-put_unacknowledged-requires-in-None-clause-n_messages_bound c =
-    grind (arith, (range-tells c.args.state.now c.requires.state_value).head.messages)
-
-pub put_unacknowledged-requires-in-None-clause-acks_held : goal.put_unacknowledged-requires-in-None-clause-acks_held
-put_unacknowledged-requires-in-None-clause-acks_held c =
-    grind (arith, (range-tells c.args.state.now c.requires.state_value).head.acks, held-then)
 
 pub returns-in-Some : goal.returns-in-Some
 unfolding request_of
@@ -100,8 +60,8 @@ returns-in-Some c =
     ]
     in
     as-asked
-    (data-with r s (bits c.args.store.now) c.if-state-q.false (grind (arith, nat_tests)) c.if-state-ge32.false d.left (rw c.in-Some.is at d.value))
-    (rw c.wants_fcs.ensures at c.put_unacknowledged.ensures)
+    (data-with r s (bits c.args.store.now) c.if-state-q.false (grind (arith, nat_tests)) c.if-state-ge32.false (rw c.in-Some.is at d.value))
+    (rw c.wants_fcs.ensures at c.put_unacknowledged.ensures s (others (stolen r s) (acks_of s)) d.left)
 
 pub returns-in-None : goal.returns-in-None
 unfolding request_of
@@ -117,5 +77,5 @@ returns-in-None c =
     ]
     in
     as-asked
-    (data-without r s (bits c.args.store.now) c.if-state-q.false (grind (arith, nat_tests)) c.if-state-ge32.false d.left (rw c.in-None.is at d.value))
-    c.put_unacknowledged-in-None.ensures
+    (data-without r s (bits c.args.store.now) c.if-state-q.false (grind (arith, nat_tests)) c.if-state-ge32.false (rw c.in-None.is at d.value))
+    (c.put_unacknowledged-in-None.ensures s (others (stolen r s) (acks_of s)) d.left)

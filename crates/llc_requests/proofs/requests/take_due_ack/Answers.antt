@@ -9,11 +9,10 @@ unfolding request_of
 returns-in_err-i c =
     let s = c.args.state.now in
     let r = request_of c.args.q.now in
-    let few = c.requires.acks_held in
     rw c.from_residual.ensures
     (record {
-      value = none-due r s None c.preferred_carrier.ensures c.in_err-i.ensures.place few refl;
-      state_after = left-whole r s None c.preferred_carrier.ensures c.in_err-i.ensures.place few refl;
+      value = none-due r s None c.preferred_carrier.ensures c.in_err-i.ensures.place c.in_err-i.ensures.count refl;
+      state_after = left-whole r s None c.preferred_carrier.ensures c.in_err-i.ensures.place c.in_err-i.ensures.count refl;
     })
 
 pub returns : goal.returns
@@ -22,10 +21,9 @@ returns c =
     let s = c.args.state.now in
     let r = request_of c.args.q.now in
     let i = c.in_ok-i.i in
-    let few = c.requires.acks_held in
     let e = c.in_ok-i.ensures in
     let left = c.take_out_ack.ensures in
     record {
-      value = taken-due r s (Some i) c.preferred_carrier.ensures e.place few refl e.bound c.take_out_ack.result left.ack left.after;
-      state_after = left-without r s (Some i) c.preferred_carrier.ensures e.place few refl e.bound refl left.after;
+      value = taken-due r s (Some i) c.preferred_carrier.ensures e.place e.count refl e.bound c.take_out_ack.result left.ack left.after;
+      state_after = left-without r s (Some i) c.preferred_carrier.ensures e.place e.count refl e.bound refl left.after;
     }

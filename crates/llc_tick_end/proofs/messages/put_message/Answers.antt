@@ -11,14 +11,14 @@ use Rattle.std.specs.Bool.{then_some}
 use Rattle.lists.proofs.Writes.{same_bytes}
 use Rattle.bits.specs.Bits.{bits}
 use Rattle.bits.proofs.Laws.{drop_bits}
+use Rattle.llc_pdus.specs.Headers.{option_of}
 use Rattle.llc_rule.specs.Limits.{place_bytes}
 use Rattle.llc_rule.specs.Records.{sent_bytes}
-use Rattle.llc_records.specs.Records.{mask_of}
 use Rattle.llc_state.specs.View.{place_bit, frame_at, sent_with, sent_in}
 use Rattle.llc_state.specs.declared.Entry.{Entry}
 use Rattle.llc_tick_end.proofs.messages.put_message.Goals as goal
 
-mask-is : (has : Bool) (m : ℕ) → mask_of (then_some has m) ≡ cond has (some m) none
+mask-is : (has : Bool) (m : ℕ) → option_of (then_some has m) ≡ cond has (some m) none
 mask-is true m = refl
 mask-is false m = refl
 
@@ -41,13 +41,13 @@ frame-is store e =
 message-is :
     (k : ℕ) (store : List ℕ) (e : Entry) {mask : Code.Option ℕ}
     → mask ≡ then_some e.sent.has_mask e.sent.mask
-    → sent_bytes k (record (sent_with (from_place store e) e.sent) { mask = mask_of mask }) ≡ sent_bytes k (sent_in (bits store) e)
+    → sent_bytes k (record (sent_with (from_place store e) e.sent) { mask = option_of mask }) ≡ sent_bytes k (sent_in (bits store) e)
 unfolding sent_in
 message-is k store e p =
     λ i.
     sent_bytes k
     (record (sent_with (frame-is store e i) e.sent) {
-      mask = (ap (λ (m : Code.Option ℕ). mask_of m) p ∙ mask-is e.sent.has_mask e.sent.mask) i;
+      mask = (ap (λ (m : Code.Option ℕ). option_of m) p ∙ mask-is e.sent.has_mask e.sent.mask) i;
     })
 
 pub put_sent-requires-clause-len_in_bounds : goal.put_sent-requires-clause-len_in_bounds

@@ -8,12 +8,12 @@ use borrow.Author.Tests.{le-leb, lt-leb}
 use lib.Dec.{leb}
 use lib.Pow.{shl_exact}
 use Rattle.std.specs.Prelude as Code
-use Rattle.lists.proofs.Choices.{if-true, if-false, and-true}
-use Rattle.llc_pdus.specs.Headers.{header}
+use Rattle.std.proofs.lemmas.Bool.{cond-true, cond-false, and_from}
+use Rattle.llc_pdus.specs.Headers.{header, option_of}
 use Rattle.llc_pdus.specs.declared.Pdu.TheVariants.{BlAck}
 use Rattle.llc_rule.specs.Messages.{steals_slot, reply_to}
 use Rattle.llc_rule.specs.Records.{reply as reply_record}
-use Rattle.llc_records.specs.Records.{mask_of, reply}
+use Rattle.llc_records.specs.Records.{reply}
 use Rattle.llc_state.specs.View.{due_in}
 use Rattle.llc_state.specs.declared.ScheduledOutAck.{ScheduledOutAck}
 use Rattle.llc_tick_end.proofs.replies.ack_reply.Goals as goal
@@ -29,7 +29,7 @@ module _ (a : ScheduledOutAck) {l : ℕ × Code.Option ℕ} {b : Bool} (q : b �
       ≡ reply_to (due_in a)
   unfolding reply_to due_in
   steals low high p =
-      let h : steals_slot a.ts ≡ true = and-true (le-leb 2 a.ts low) (le-leb a.ts 4 high) in
+      let h : steals_slot a.ts ≡ true = and_from _ _ (le-leb 2 a.ts low) (le-leb a.ts 4 high) in
       let bit : 1 * 2 ^ (a.ts - 1) % 2 ^ 8 ≡ 2 ^ (a.ts - 1) =
       shl_exact 1 (a.ts - 1) 8 (omega arith) (omega arith) ∙ one-mul (2 ^ (a.ts - 1)) in
       λ i.
@@ -38,9 +38,9 @@ module _ (a : ScheduledOutAck) {l : ℕ × Code.Option ℕ} {b : Bool} (q : b �
         ssi = a.ssi;
         type = a.ssi_type;
         carrier = a.carrier_num;
-        link = (ap (λ (x : ℕ × Code.Option ℕ). x.0) p ∙ sym (if-true a.ts 0 h)) i;
+        link = (ap (λ (x : ℕ × Code.Option ℕ). x.0) p ∙ sym (cond-true _ a.ts 0 h)) i;
         steal = (q ∙ ap (λ (x : ℕ × Code.Option ℕ). Code.is_some x.1) p ∙ sym h) i;
-        mask = (ap (λ (x : ℕ × Code.Option ℕ). mask_of x.1) p ∙ ap some bit ∙ sym (if-true (some (2 ^ (a.ts - 1))) none h)) i;
+        mask = (ap (λ (x : ℕ × Code.Option ℕ). option_of x.1) p ∙ ap some bit ∙ sym (cond-true _ (some (2 ^ (a.ts - 1))) none h)) i;
         pdu = header (BlAck false a.nr);
       })
 
@@ -57,9 +57,9 @@ module _ (a : ScheduledOutAck) {l : ℕ × Code.Option ℕ} {b : Bool} (q : b �
         ssi = a.ssi;
         type = a.ssi_type;
         carrier = a.carrier_num;
-        link = (ap (λ (x : ℕ × Code.Option ℕ). x.0) p ∙ sym (if-false a.ts 0 h)) i;
+        link = (ap (λ (x : ℕ × Code.Option ℕ). x.0) p ∙ sym (cond-false _ a.ts 0 h)) i;
         steal = (q ∙ ap (λ (x : ℕ × Code.Option ℕ). Code.is_some x.1) p ∙ sym h) i;
-        mask = (ap (λ (x : ℕ × Code.Option ℕ). mask_of x.1) p ∙ sym (if-false (some (2 ^ (a.ts - 1))) none h)) i;
+        mask = (ap (λ (x : ℕ × Code.Option ℕ). option_of x.1) p ∙ sym (cond-false _ (some (2 ^ (a.ts - 1))) none h)) i;
         pdu = header (BlAck false a.nr);
       })
 

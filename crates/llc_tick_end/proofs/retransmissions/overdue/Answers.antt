@@ -1,7 +1,7 @@
-use native.Mathlib.Omega.{arith}
-use Rattle.llc_tick_end.proofs.Overdue.{by-age}
+use Rattle.std.proofs.Common.{rules}
+use Rattle.llc_tick_end.proofs.Overdue.{by-result}
 use Rattle.llc_tick_end.proofs.retransmissions.overdue.Goals as goal
 
-pub returns-in-Ok : goal.returns-in-Ok
-returns-in-Ok c =
-    by-age c.args.dltime c.args.done c.requires.dltime_value c.requires.done_value c.args.t251 c.in-Ok.ensures (omega arith) (omega arith)
+pub returns : goal.returns
+returns c =
+    by-result c.args.dltime c.args.done c.requires.dltime_value c.requires.done_value c.args.t251 _ _ _ (λ z p. search rules) _ c.diff.ensures c.map_or.ensures

@@ -8,13 +8,13 @@ pub loop-i-init : goal.loop-i-init
 loop-i-init c =
     passes c.args.state.now c.args.store.now c.args.out.now c.args.at c.requires.in_range c.requires.started c.requires.messages_len
 
-pub bounds-state-receipt : goal.bounds-state-receipt
-bounds-state-receipt c =
+pub receipt_place-requires : goal.receipt_place-requires
+receipt_place-requires c =
     (held-measures c.loop-i.invariant c.loop-i-test.true _).receipt
 
 pub is_due-requires-clause-t_umac_done_value : goal.is_due-requires-clause-t_umac_done_value
 is_due-requires-clause-t_umac_done_value c =
-    visited-done c.loop-i.invariant c.loop-i-test.true _ c.timed-e.ensures
+    visited-done c.loop-i.invariant c.loop-i-test.true _ (rw c.receipt_place.ensures at c.timed-e.ensures)
 
 pub mark_receipt-requires : goal.mark_receipt-requires
 mark_receipt-requires c =
@@ -24,19 +24,19 @@ pub loop-i-preserved-then-e-ge-N252_BL_MAX_TLSDU_RETRANSMITS_ACKED : goal.loop-i
 loop-i-preserved-then-e-ge-N252_BL_MAX_TLSDU_RETRANSMITS_ACKED c =
     let due = sym c.is_due.ensures ∙ c.if-is_due.true in
     rw c.mark_receipt.ensures
-    (leaves c.loop-i.invariant c.loop-i-test.true _ c.timed-e.ensures due c.if-e-ge-N252_BL_MAX_TLSDU_RETRANSMITS_ACKED.true)
+    (leaves c.loop-i.invariant c.loop-i-test.true _ (rw c.receipt_place.ensures at c.timed-e.ensures) due c.if-e-ge-N252_BL_MAX_TLSDU_RETRANSMITS_ACKED.true)
 
 pub put_message-at-requires : goal.put_message-at-requires
 put_message-at-requires c =
     let inv = c.loop-i.invariant in
     let test = c.loop-i-test.true in
     let due = sym c.is_due.ensures ∙ c.if-is_due.true in
-    let tells = visited-measures inv test _ c.timed-e.ensures in record {
+    let tells = visited-measures inv test _ (rw c.receipt_place.ensures at c.timed-e.ensures) in record {
       store_len = c.requires.store_len;
       block_len = tells.block;
       place = tells.place;
       frame_len = tells.len;
-      room = room inv test _ c.timed-e.ensures due c.if-e-ge-N252_BL_MAX_TLSDU_RETRANSMITS_ACKED.false c.requires.room;
+      room = room inv test _ (rw c.receipt_place.ensures at c.timed-e.ensures) due c.if-e-ge-N252_BL_MAX_TLSDU_RETRANSMITS_ACKED.false c.requires.room;
     }
 
 pub mark_receipt-requires-then-is_due : goal.mark_receipt-requires-then-is_due
@@ -47,7 +47,7 @@ pub loop-i-preserved : goal.loop-i-preserved
 loop-i-preserved c =
     let inv = c.loop-i.invariant in
     let test = c.loop-i-test.true in
-    let timed = c.timed-e.ensures in
+    let timed = rw c.receipt_place.ensures at c.timed-e.ensures in
     elim c.if-is_due.branch [
       | then-is_due+else-e-ge-N252_BL_MAX_TLSDU_RETRANSMITS_ACKED w ↦
           at-join _ (w.state-is ∙ w.mark_receipt-then-is_due.ensures) w.e-is w.out-is w.at-is
