@@ -87,7 +87,7 @@ impl BitBuffer {
         if out.len() < count {
             return Err(Refusal::NoRoom);
         }
-        out[..count].copy_from_slice(&bytes[first..first + count]);
+        copy_whole(&bytes[first..first + count], &mut out[..count]);
         let start = self.pos % 8;
         Ok(BitBuffer {
             start,
@@ -156,4 +156,14 @@ fn fits(value: u64, num_bits: usize) -> bool
         return num_bits == 64;
     }
     value < (1 << num_bits)
+}
+
+// The bytes of src in place of those of dst, one by one: `copy_from_slice` calls memmove, which a program for bare metal may lack.
+fn copy_whole(src: &[u8], dst: &mut [u8])
+    requires { length src.now ≡ length dst.old }
+    ensures { dst.new ≡ src.now }
+{
+    for (i, b) in dst.iter_mut().enumerate() {
+        *b = src[i];
+    }
 }

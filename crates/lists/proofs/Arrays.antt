@@ -9,7 +9,7 @@ use borrow.Author.Tests.{lt-ltb}
 use lib.Dec.{ltb}
 use lib.ListN.{length, take, drop, get_or, set, replicate, length-append, length-take, length-drop, length-replicate, take-append-drop}
 use lib.Seq.{length-take-le, take-append_seam, set_split}
-use Rattle.lists.specs.Lists.{any, nothing, first, behind, find}
+use Rattle.lists.specs.Lists.{any, Found, nothing, first, behind, find, others}
 use Rattle.lists.specs.Arrays.{position, without, laid}
 use Rattle.lists.proofs.Choices.{by-test}
 
@@ -51,6 +51,19 @@ module _ {A : Type 0} where
       (λ e. absurd (omega (arith, rw e at h)))
       (λ e. rw e (ap (behind x) (found_none p l (omega (arith, rw e at h)))))
 
+  -- The others are the list without that place.
+  others-behind : (x : A) (l : List A) (f : Found A) → others (behind x f) (x ∷ l) ≡ x ∷ others f l
+  others-behind x l nothing = refl
+  others-behind x l (first y ys) = refl
+
+  pub others-without : (p : A → Bool) (l : List A) → others (find p l) l ≡ without (position p l) l
+  unfolding position find
+  others-without p [] = refl
+  others-without p (x ∷ l) =
+      by-test (p x)
+      (λ e. rw e)
+      (λ e. rw e (others-behind x l (find p l) ∙ ap (λ (t : List A). x ∷ t) (others-without p l)))
+
   -- A search in the first n ends at most there.
   pub position-within : (p : A → Bool) (n : ℕ) (l : List A) → position p (take n l) ≤ n
   position-within p n l = omega (arith, position-most p (take n l), length-take n l)
@@ -61,6 +74,43 @@ module _ {A : Type 0} where
   length_without i [] h = absurd (omega (arith, h))
   length_without zero (x ∷ l) h = refl
   length_without (suc i) (x ∷ l) h = ap suc (length_without i l (omega (arith, h)))
+
+  pub without-none : (i : ℕ) (l : List A) → length l ≤ i → without i l ≡ l
+  without-none zero [] h = refl
+  without-none zero (x ∷ l) h = absurd (omega (arith, h))
+  without-none (suc i) [] h = refl
+  without-none (suc i) (x ∷ l) h = ap (λ (t : List A). x ∷ t) (without-none i l (omega (arith, h)))
+
+  -- The first elements of it, and those behind them.
+  pub take-without :
+      (i m : ℕ) (l : List A)
+      → i ≤ m
+      → m < length l
+      → take m (without i l) ≡ without i (take (suc m) l)
+  take-without i m [] h k = absurd (omega (arith, k))
+  take-without zero m (x ∷ l) h k = refl
+  take-without (suc i) zero (x ∷ l) h k = absurd (omega (arith, h))
+  take-without (suc i) (suc m) (x ∷ l) h k =
+      ap (λ (t : List A). x ∷ t) (take-without i m l (omega (arith, h)) (omega (arith, k)))
+
+  pub drop-without : (i m : ℕ) (l : List A) → i ≤ m → m < length l → drop m (without i l) ≡ drop (suc m) l
+  drop-without i m [] h k = absurd (omega (arith, k))
+  drop-without zero m (x ∷ l) h k = refl
+  drop-without (suc i) zero (x ∷ l) h k = absurd (omega (arith, h))
+  drop-without (suc i) (suc m) (x ∷ l) h k = drop-without i m l (omega (arith, h)) (omega (arith, k))
+
+  -- An element of it, before the place and behind.
+  pub get_d-before : (i m : ℕ) (l : List A) (d : A) → m < i → i < length l → get_or (without i l) m d ≡ get_or l m d
+  get_d-before i m [] d h k = absurd (omega (arith, k))
+  get_d-before zero m (x ∷ l) d h k = absurd (omega (arith, h))
+  get_d-before (suc i) zero (x ∷ l) d h k = refl
+  get_d-before (suc i) (suc m) (x ∷ l) d h k = get_d-before i m l d (omega (arith, h)) (omega (arith, k))
+
+  pub get_d-behind : (i m : ℕ) (l : List A) (d : A) → i ≤ m → m < length l → get_or (without i l) m d ≡ get_or l (suc m) d
+  get_d-behind i m [] d h k = absurd (omega (arith, k))
+  get_d-behind zero m (x ∷ l) d h k = refl
+  get_d-behind (suc i) zero (x ∷ l) d h k = absurd (omega (arith, h))
+  get_d-behind (suc i) (suc m) (x ∷ l) d h k = get_d-behind i m l d (omega (arith, h)) (omega (arith, k))
 
   -- Other elements in use ---------------------------------------------------------------------------------------------------
 

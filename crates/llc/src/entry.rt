@@ -3,7 +3,7 @@ ghost use Rattle.std.specs.Prelude.{◌≡◌, ◌≤◌, ◌||◌, true, length
 ghost use Rattle.bits.specs.Bits.{bits};
 ghost use Rattle.llc_rule.specs.Limits.{output_bytes, store_bytes};
 ghost use Rattle.llc_rule.specs.Calls.{is_start};
-ghost use Rattle.llc_calls.specs.Decoded.{call_of};
+ghost use Rattle.llc_calls.specs.Decoded.{call_of, Inside};
 ghost use Rattle.llc_calls.specs.Ranges.{in_range_of};
 ghost use Rattle.llc_state.specs.Ranges.{state_in_range};
 ghost use Rattle.llc_steps.specs.Answers.{answered, delivered, effect};
@@ -47,6 +47,7 @@ fn act(state: &mut State, store: &mut [u8], out: &mut [u8], call: Call) -> Resul
     requires store_len { length store.old ≡ store_bytes }
     requires output_bytes_in_bounds { output_bytes ≤ length out.old }
     requires call_value { in_range_of call ≡ true }
+    requires call_inside { Inside call }
     requires started_value { is_start (call_of call) || state.old.started ≡ true }
     ensures { effect (answered state.new result) (bits store.new) out.new ≡ delivered state.old (bits store.old) out.old (acts (call_of call.entry) state.old (bits store.old)) }
 {

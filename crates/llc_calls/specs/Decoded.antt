@@ -1,7 +1,8 @@
 -- What the answer of a decoding says: the call as document 01 has it, its block and its bits out of the call's own bytes, or
--- the number of the question failed.
-use Rattle.std.specs.Prelude.{Result, Ok, Err}
+-- the number of the question failed; and what its numbers and its parts are below.
+use Rattle.std.specs.Prelude.{ℕ, ◌^◌, ◌<◌, ◌≡◌, List, length, Result, Ok, Err}
 use Rattle.bits.specs.Parts.{bits_of}
+use Rattle.bits.specs.declared.parts.Part.{Part}
 use Rattle.questions.specs.Outcome.{Outcome, accepted, refused}
 use Rattle.questions.specs.Refusals.{number_of}
 use Rattle.questions.specs.declared.Refusal.{Refusal}
@@ -66,3 +67,27 @@ call_of (ByReceipt receipt action) = by_receipt receipt (action_of action)
 abbrev pub decoded : Result Call Refusal → Outcome Rule.Call
 decoded (Ok c) = accepted (call_of c)
 decoded (Err r) = refused (number_of r)
+
+-- A block as long as one byte can say, and bits as many as two, from a byte's first on.
+pub record PartsInside (block : List ℕ) (lent : Part) : Type 0 where
+  pub block_len : length block < 2 ^ 8
+  pub place : lent.place ≡ 0
+  pub bits_len : lent.len < 2 ^ 16
+
+-- A request's address is one of three bytes, and its parts are those of a call; its other numbers are those of their bytes by their types.
+pub record RequestInside (q : RequestCall) : Type 0 where
+  pub ssi : q.ssi < 2 ^ 24
+  pub parts : PartsInside q.block.now q.sdu
+
+-- The same of a frame.
+pub record FrameInside (f : FrameCall) : Type 0 where
+  pub ssi : f.ssi < 2 ^ 24
+  pub parts : PartsInside f.block.now f.pdu
+
+abbrev pub Inside : Call → Type 0
+Inside (Start carrier t251) = Unit {0}
+Inside (TickStart time) = Unit {0}
+Inside TickEnd = Unit {0}
+Inside (Request s q) = RequestInside q
+Inside (Frame f) = FrameInside f
+Inside (ByReceipt receipt action) = Unit {0}

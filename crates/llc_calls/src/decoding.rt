@@ -2,7 +2,7 @@
 ghost use Rattle.std.specs.Prelude.{◌^◌, ◌≤◌, ◌<◌, true, false, ◌≡◌, length, take, drop, MatchResult, IfOk};
 ghost use Rattle.bits.specs.Parts.{bits_of};
 ghost use Rattle.llc_rule.specs.Calls.{filled_from, block_at, bits_at, request_in, frame_in, tag_of, inner, parsed};
-ghost use Rattle.llc_calls.specs.Decoded.{decoded, request_of, frame_of};
+ghost use Rattle.llc_calls.specs.Decoded.{decoded, request_of, frame_of, Inside, RequestInside, FrameInside};
 
 use crate::numbers::number;
 use crate::{Action, Call, FrameCall, RequestCall, Service};
@@ -14,7 +14,8 @@ use tdma_time::TdmaTime;
 /// The call that bytes spell, or that its lengths do not fill it or that its tag is not known.
 #[tactic(auto, using(crate::proofs::Filled::outer), unfolding(llc_rule::specs::Calls::parsed))]
 pub fn decode<'a>(bytes: &'a [u8]) -> Result<Call<'a>, Refusal>
-    ensures { decoded result ≡ parsed bytes.now }
+    ensures value { decoded result ≡ parsed bytes.now }
+    ensures inside { IfOk result (λ call. Inside call) }
 {
     let [tag, high, low, value @ ..] = bytes else {
         return Err(Refusal::Unfilled);
@@ -33,7 +34,8 @@ fn filled(yes: bool) -> Result<(), Refusal>
 // The call with this tag and what is behind its length, if the inner lengths fill that.
 #[tactic(auto, unfolding(llc_rule::specs::Calls::inner, llc_rule::specs::Calls::tag_of))]
 fn by_tag<'a>(tag: u8, value: &'a [u8]) -> Result<Call<'a>, Refusal>
-    ensures { decoded result ≡ inner (tag_of tag) value.now }
+    ensures value { decoded result ≡ inner (tag_of tag) value.now }
+    ensures inside { IfOk result (λ call. Inside call) }
 {
     match (tag, value) {
         (0x21, &[c0, c1, t0, t1]) => Ok(Call::Start(
@@ -87,7 +89,8 @@ fn parts<'a>(bytes: &'a [u8]) -> Result<(&'a [u8], Part<'a>), Refusal>
 // The request that fills its call.
 #[tactic(auto, using(crate::proofs::Filled::behind), unfolding(crate::specs::Decoded::request_of, llc_rule::specs::Calls::request_in))]
 fn request<'a>(value: &'a [u8]) -> Result<RequestCall<'a>, Refusal>
-    ensures { MatchResult result (λ q. (filled_from value.now 22 ≡ true) × (request_of q ≡ request_in value.now)) (λ r. (r ≡ Refusal.Unfilled) × (filled_from value.now 22 ≡ false)) }
+    ensures filled { MatchResult result (λ q. (filled_from value.now 22 ≡ true) × (request_of q ≡ request_in value.now)) (λ r. (r ≡ Refusal.Unfilled) × (filled_from value.now 22 ≡ false)) }
+    ensures inside { IfOk result (λ q. RequestInside q) }
 {
     let (_, behind) = split(value, 22)?;
     let (block, sdu) = parts(behind)?;
@@ -110,7 +113,8 @@ fn request<'a>(value: &'a [u8]) -> Result<RequestCall<'a>, Refusal>
 // The frame that fills its call.
 #[tactic(auto, using(crate::proofs::Filled::behind), unfolding(crate::specs::Decoded::frame_of, llc_rule::specs::Calls::frame_in))]
 fn frame<'a>(value: &'a [u8]) -> Result<FrameCall<'a>, Refusal>
-    ensures { MatchResult result (λ f. (filled_from value.now 14 ≡ true) × (frame_of f ≡ frame_in value.now)) (λ r. (r ≡ Refusal.Unfilled) × (filled_from value.now 14 ≡ false)) }
+    ensures filled { MatchResult result (λ f. (filled_from value.now 14 ≡ true) × (frame_of f ≡ frame_in value.now)) (λ r. (r ≡ Refusal.Unfilled) × (filled_from value.now 14 ≡ false)) }
+    ensures inside { IfOk result (λ f. FrameInside f) }
 {
     let (_, behind) = split(value, 14)?;
     let (block, pdu) = parts(behind)?;

@@ -1,8 +1,6 @@
 // The calls of a basic link, taken apart from lent bytes, and whether their values are in range.
 #![tactic(auto)]
 
-ghost use Rattle.std.specs.Prelude.{◌^◌, ◌<◌, ◌≡◌, length};
-
 mod decoding;
 mod flags;
 mod numbers;
@@ -35,14 +33,10 @@ pub struct RequestCall<'a> {
     pub mask: u8,
     /// The receipt's number.
     pub receipt: u8,
-    /// The block, of less than 256 bytes.
+    /// The block.
     pub block: &'a [u8],
-    /// The SDU's bits, less than 65,536 of them from a byte's first bit on.
+    /// The SDU's bits.
     pub sdu: Part<'a>,
-    ghost address: { ssi < 2 ^ 24 },
-    ghost block_len: { length block.now < 2 ^ 8 },
-    ghost whole: { sdu.place ≡ 0 },
-    ghost sdu_len: { sdu.len < 2 ^ 16 },
 }
 
 /// A frame, with its block and its PDU lent from its call.
@@ -58,14 +52,10 @@ pub struct FrameCall<'a> {
     pub link: u32,
     /// The endpoint id.
     pub endpoint: u32,
-    /// The block, of less than 256 bytes.
+    /// The block.
     pub block: &'a [u8],
-    /// The PDU's bits, less than 65,536 of them from a byte's first bit on.
+    /// The PDU's bits.
     pub pdu: Part<'a>,
-    ghost address: { ssi < 2 ^ 24 },
-    ghost block_len: { length block.now < 2 ^ 8 },
-    ghost whole: { pdu.place ≡ 0 },
-    ghost pdu_len: { pdu.len < 2 ^ 16 },
 }
 
 /// The service that a request asks for.

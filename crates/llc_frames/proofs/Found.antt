@@ -48,7 +48,7 @@ module _ {A : Type 0} where
       (λ e. rw e (ap (behind x) (found-is p l) ∙ behind-found x (drop (position p l) l) (without (position p l) l)))
 
   -- Of the first n of an array, nothing stands in a place from n on, and in another the array's element.
-  found_nothing : (n i : ℕ) (l : List A) → n ≤ i → found_at i (take n l) ≡ nothing
+  pub found_nothing : (n i : ℕ) (l : List A) → n ≤ i → found_at i (take n l) ≡ nothing
   found_nothing n i l h =
       ap (λ (t : List A). found_in t (without i (take n l))) (drop_of_length-le (take n l) {i = i} (omega (arith, length-take n l)))
 

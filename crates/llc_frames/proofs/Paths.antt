@@ -195,15 +195,14 @@ module _ (s : State) (f : FrameCall) (p : Pdu) (sdu : List ℕ) where
         ∙ ask-yes 14 _ a.finishes
         ∙ ap₂ (λ (x : State) (again : Bool). accepted (kept x store (cond again [] (upward (frame_of f) p sdu)))) left (sym again))
 
--- The frame of a call, read where it lies.
-module _ (f : FrameCall) where
+-- The frame of a call that lies at a byte's first bit, read where it lies.
+module _ (f : FrameCall) (place : f.pdu.place ≡ 0) where
   abbrev from : List ℕ
   from = bits f.pdu.bytes.now
 
-  -- It lies at a byte's first bit.
   pdu-is : take f.pdu.len from ≡ (frame_of f).pdu
   unfolding frame_of
-  pdu-is = ap (λ (k : ℕ). take f.pdu.len (drop k from)) (sym f.whole)
+  pdu-is = ap (λ (k : ℕ). take f.pdu.len (drop k from)) (sym place)
 
   pdu-fits : f.pdu.len ≤ length from
   pdu-fits = omega (arith, length-bits f.pdu.bytes.now, f.pdu.inside)

@@ -20,6 +20,7 @@ use llc_state::State;
 use questions::Refusal;
 
 // A frame that was read, with its SDU. All questions come before the first change.
+#[tactic(auto, using(llc_received::proofs::SentUp::frame_small))]
 fn rx_tma_unitdata_ind_bl(
     state: &mut State,
     out: &mut [u8],
@@ -55,6 +56,7 @@ pub fn rx_tma_unitdata_ind(
     requires state_value { state_in_range state.old ≡ true }
     requires output_bytes_in_bounds { output_bytes ≤ length out.old }
     requires f_value { frame_range f.now ≡ true }
+    requires pdu_place { f.now.pdu.place ≡ 0 }
     requires started_value { state.old.started ≡ true }
     ensures { WithAnyStore (answered state.new result) out.new state.old out.old (λ (store : List ℕ). on_received (frame_of f.now) (received (frame_of f.now).pdu) state.old store) }
 {

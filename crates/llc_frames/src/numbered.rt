@@ -10,7 +10,7 @@ ghost use Rattle.llc_steps.specs.Calls.{row_if_numbered, ack_room, numbered, is_
 ghost use Rattle.llc_frames.specs.Numbers.{row_place, ns_in};
 
 use llc_calls::FrameCall;
-use llc_queues::{schedule_outgoing_ack, send_seq, send_seq_row, set_send_seq};
+use llc_queues::{schedule_outgoing_ack, send_seq, send_seq_row_or_free, set_send_seq};
 use llc_state::{LinkSendSeq, ScheduledOutAck, State};
 use questions::Refusal;
 use tdma_time::TdmaTime;
@@ -44,7 +44,7 @@ pub(crate) fn seq_row(
     let Some(ns) = ns else {
         return Ok(None);
     };
-    let row = send_seq_row(state, f.ssi)?;
+    let row = send_seq_row_or_free(state, f.ssi)?;
     if state.n_acks >= state.scheduled_out_acks.len() {
         return Err(Refusal::AcksFull);
     }

@@ -11,6 +11,8 @@ use questions::Refusal;
 
 /// The PDU of a frame of so many bits, and where its SDU lies, which ends before the check bits where the FCS flag is set. The
 /// check is lent the bytes from the header's last byte onwards, and told how many bits stand behind the header.
+// Put into its callers, which use one number of the answer or take it apart: called, it answers through memory, in twice the time.
+#[inline(always)]
 pub fn from_bitbuf(frame: &[u8], len: usize) -> Result<(Pdu, Sdu), Refusal>
     ensures { answered result ≡ read_from (bits frame.now) len }
 {

@@ -6,7 +6,8 @@ mod searches;
 mod updates;
 
 pub use searches::{
-    expected_ack_for_ssi, free_place, holds, out_ack_if_any, send_seq, send_seq_row, waits,
+    expected_ack_for_ssi, free_place, holds, out_ack_if_any, send_seq, send_seq_row,
+    send_seq_row_or_free, waits,
 };
 pub use updates::{
     push_front_expected_ack, push_message, push_udata_message, schedule_outgoing_ack, set_send_seq,

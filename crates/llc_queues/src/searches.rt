@@ -25,17 +25,29 @@ pub fn out_ack_if_any(state: &State, ssi: u32, carrier_num: u16) -> Option<usize
         .position(|ack| ack.ssi == ssi && ack.carrier_num == carrier_num)
 }
 
-/// The place of an SSI's row, or the next free one where it has none yet.
-pub fn send_seq_row(state: &State, ssi: u32) -> Result<usize, Refusal>
+/// The place of an SSI's row; the number of rows where it has none yet.
+pub fn send_seq_row(state: &State, ssi: u32) -> usize
+    requires { state.now.n_rows ≤ 256 }
+    ensures place { result ≡ position (row_of ssi) (rows_of state.now) }
+    ensures count { length (rows_of state.now) ≡ state.now.n_rows }
+{
+    rows(state)
+        .iter()
+        .position(|row| row.ssi == ssi)
+        .unwrap_or(state.n_rows)
+}
+
+/// The place of an SSI's row, or the next free one where it has none yet, by question 7.
+pub fn send_seq_row_or_free(state: &State, ssi: u32) -> Result<usize, Refusal>
     requires { state.now.n_rows ≤ 256 }
     ensures place { outcome result ≡ ask 7 (row_for ssi state.now) (accepted (position (row_of ssi) (rows_of state.now))) }
     ensures bound { IfOk result (λ i. (i ≤ state.now.n_rows) × (i < 256)) }
 {
-    match rows(state).iter().position(|row| row.ssi == ssi) {
-        Some(i) => Ok(i),
-        None if state.n_rows < state.link_send_seq.len() => Ok(state.n_rows),
-        None => Err(Refusal::NoRow),
+    let row = send_seq_row(state, ssi);
+    if row >= state.link_send_seq.len() {
+        return Err(Refusal::NoRow);
     }
+    Ok(row)
 }
 
 /// The row of a place; a new one of the SSI where there is none yet.

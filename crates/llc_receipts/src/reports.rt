@@ -18,7 +18,7 @@ pub fn rx_tma_report_ind(state: &mut State, receipt: u8, how: u8) -> Result<(), 
 {
     let tx = state
         .receipt_place(receipt)
-        .receipt()
+        .receipt_if_taken()
         .ok_or(Refusal::NotPending)?;
     if tx.get_state() != TxState::Pending || waits(state, receipt) {
         return Err(Refusal::NotPending);
@@ -41,7 +41,7 @@ pub fn release(state: &mut State, receipt: u8) -> Result<(), Refusal>
 {
     let tx = state
         .receipt_place(receipt)
-        .receipt()
+        .receipt_if_taken()
         .ok_or(Refusal::NotFinal)?;
     if !tx.is_in_final_state() || holds(state, receipt) {
         return Err(Refusal::NotFinal);

@@ -29,19 +29,19 @@ module _ (f : Frame) (sdu : List ℕ) where
   alone : (k link : ℕ) (fcs : Bool) → indication_bytes k (sent_up f link fcs sdu) ++ [] ≡ indication_bytes k (sent_up f link fcs sdu)
   alone k link fcs = append-nil (indication_bytes k (sent_up f link fcs sdu))
 
-  adata-up : (c nr ns : Bool) → all_bytes (upward f (BlAdata c nr ns) sdu) ≡ indication_bytes 4 (sent_up f f.link c sdu)
+  pub adata-up : (c nr ns : Bool) → all_bytes (upward f (BlAdata c nr ns) sdu) ≡ indication_bytes 4 (sent_up f f.link c sdu)
   unfolding upward all_bytes bytes
   adata-up c nr ns = alone 4 f.link c
 
-  data-up : (c ns : Bool) → all_bytes (upward f (BlData c ns) sdu) ≡ indication_bytes 4 (sent_up f f.link c sdu)
+  pub data-up : (c ns : Bool) → all_bytes (upward f (BlData c ns) sdu) ≡ indication_bytes 4 (sent_up f f.link c sdu)
   unfolding upward all_bytes bytes
   data-up c ns = alone 4 f.link c
 
-  udata-up : (c : Bool) → all_bytes (upward f (BlUdata c) sdu) ≡ indication_bytes 5 (sent_up f 0 c sdu)
+  pub udata-up : (c : Bool) → all_bytes (upward f (BlUdata c) sdu) ≡ indication_bytes 5 (sent_up f 0 c sdu)
   unfolding upward all_bytes bytes
   udata-up c = alone 5 0 c
 
-ack-up :
+pub ack-up :
     (f : Frame) (sdu : List ℕ) (c nr : Bool)
     → 0 < length sdu
     → all_bytes (upward f (BlAck c nr) sdu) ≡ indication_bytes 4 (sent_up f 0 c sdu)
@@ -67,7 +67,7 @@ module _ (f : Frame) (sdu : Part) {p : Pdu} {k : ℕ × ℕ × Bool} where
   ack-lent {c} {nr} e some is =
       rw (e, is) (sym (ack-up f (bits_of sdu) c nr (omega (arith, length-bits_of sdu, some))))
 
-none-up : (f : Frame) (sdu : List ℕ) (c nr : Bool) → length sdu ≡ 0 → all_bytes (upward f (BlAck c nr) sdu) ≡ []
+pub none-up : (f : Frame) (sdu : List ℕ) (c nr : Bool) → length sdu ≡ 0 → all_bytes (upward f (BlAck c nr) sdu) ≡ []
 unfolding upward all_bytes
 none-up f [] c nr h = refl
 none-up f (b ∷ sdu) c nr h = absurd (omega (arith, h))

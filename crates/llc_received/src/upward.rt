@@ -16,6 +16,7 @@ use llc_records::{IndicationRecord, put_indication};
 /// after BL-DATA and BL-ADATA alone. Of a BL-ACK with nothing left nothing goes up.
 #[tactic(auto, using(lists::proofs::Writes::wrote_none), unfolding(llc_calls::specs::Decoded::frame_of, llc_rule::specs::Upward::upward, llc_rule::specs::Records::all_bytes, llc_rule::specs::Records::bytes))]
 pub fn put_upward(out: &mut [u8], at: usize, f: &FrameCall, pdu: Pdu, sdu: Part) -> usize
+    requires block_len_bound { length f.now.block.now < 2 ^ 16 }
     requires len_bound { sdu.len < 2 ^ 16 }
     requires len_in_bounds { at + length (all_bytes (upward (frame_of f.now) pdu (bits_of sdu))) ≤ length out.old }
     ensures { Wrote out.old at (all_bytes (upward (frame_of f.now) pdu (bits_of sdu.entry))) out.new result }

@@ -40,12 +40,12 @@ use Rattle.llc_steps.proofs.Places.{free-place}
 use Rattle.llc_steps.proofs.Rows.{seq-at, placed-seq}
 
 -- What question 5 tells of a request.
-record Allowed (q : RequestCall) : Type 0 where
-  receipt : q.receipt < 128
-  block : length q.block.now ≤ 64
-  sdu : q.sdu.len ≤ longest
+pub record Allowed (q : RequestCall) : Type 0 where
+  pub receipt : q.receipt < 128
+  pub block : length q.block.now ≤ 64
+  pub sdu : q.sdu.len ≤ longest
 
-allowed : (q : RequestCall) → request_range q ≡ true → Allowed q
+pub allowed : (q : RequestCall) → request_range q ≡ true → Allowed q
 unfolding request_range
 allowed q h =
     let others : Bool =

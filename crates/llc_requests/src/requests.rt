@@ -19,7 +19,7 @@ use crate::entries::{entry_of, put_frame};
 use llc_calls::RequestCall;
 use llc_pdus::Pdu;
 use llc_queues::{
-    free_place, out_ack_if_any, push_message, push_udata_message, send_seq, send_seq_row,
+    free_place, out_ack_if_any, push_message, push_udata_message, send_seq, send_seq_row_or_free,
     set_send_seq, take_out_ack,
 };
 use llc_state::{FramePlace, LinkSendSeq, ScheduledOutAck, State};
@@ -130,7 +130,7 @@ pub fn rx_tla_tldata_req_bl(
         return Err(Refusal::ReceiptTaken);
     }
     if q.ssi_type == 1 && !q.steals() {
-        let row = send_seq_row(state, q.ssi)?;
+        let row = send_seq_row_or_free(state, q.ssi)?;
         if state.n_messages >= state.outbound_messages.len() {
             return Err(Refusal::NoRoom);
         }

@@ -1,9 +1,12 @@
 // The receipts of a state, by their numbers.
 ghost use Rattle.std.specs.Prelude.{◌≡◌, ◌&&◌, ◌<◌};
-ghost use Rattle.tx_receipt.specs.Marks.{acknowledged, allowed, marked};
+ghost use Rattle.questions.specs.Outcome.{number};
+ghost use Rattle.questions.specs.Refusals.{outcome};
+ghost use Rattle.tx_receipt.specs.Marks.{acknowledged, allowed, answer, marked};
 ghost use Rattle.llc_state.specs.Receipts.{receipt_of, receipt_in, taken_by, requested_receipt, marked_place, place_of, mark_receipt, take_receipt, free_receipt};
 
 use crate::{ReceiptPlace, State};
+use questions::Refusal;
 use tx_receipt::{Mark, TxReceipt, TxState, lent};
 
 // The receipt of a request: one of acknowledged service, or of unacknowledged service.
@@ -17,37 +20,42 @@ fn requested(expects_ack: bool) -> TxReceipt
     }
 }
 
-// A receipt after a mark; a mark that is refused leaves it as it was.
-fn marked(mut tx: TxReceipt, mark: Mark) -> TxReceipt
-    ensures { result ≡ (marked mark tx).receipt }
+// What a mark by value answers, and the receipt after it: where it is refused the receipt is as it was.
+fn by_value(tx: TxReceipt, made: Result<TxReceipt, Refusal>) -> (Result<(), Refusal>, TxReceipt)
+    ensures { record { number = number (outcome result.0); receipt = result.1 } ≡ answer tx made }
+{
+    (made.and(Ok(())), made.unwrap_or(tx))
+}
+
+// What a mark answers, and the receipt after it.
+fn marked(mut tx: TxReceipt, mark: Mark) -> (Result<(), Refusal>, TxReceipt)
+    ensures { record { number = number (outcome result.0); receipt = result.1 } ≡ marked mark tx }
 {
     match mark {
-        Mark::Transmitted => tx.mark_transmitted().unwrap_or(tx),
-        Mark::Discarded => tx.mark_discarded().unwrap_or(tx),
-        Mark::Acknowledged => {
-            let _ = lent::acknowledged(&mut tx);
-            tx
-        }
-        Mark::Lost => {
-            let _ = lent::lost(&mut tx);
-            tx
-        }
-        Mark::Reset => {
-            lent::reset(&mut tx);
-            tx
-        }
+        Mark::Transmitted => by_value(tx, tx.mark_transmitted()),
+        Mark::Discarded => by_value(tx, tx.mark_discarded()),
+        Mark::Acknowledged => (lent::acknowledged(&mut tx), tx),
+        Mark::Lost => (lent::lost(&mut tx), tx),
+        Mark::Reset => (lent::reset(&mut tx), tx),
     }
 }
 
 impl ReceiptPlace {
-    /// The receipt of the place, if it is taken.
-    pub fn receipt(self) -> Option<TxReceipt>
-        ensures { result ≡ receipt_in self }
+    /// The receipt of the place; of one that is not taken what was left there.
+    pub fn receipt(self) -> TxReceipt
+        ensures { result ≡ receipt_of self }
     {
-        self.taken.then_some(TxReceipt {
+        TxReceipt {
             expects_ack: self.expects_ack,
             state: TxState::from(self.state),
-        })
+        }
+    }
+
+    /// The receipt of the place, if it is taken.
+    pub fn receipt_if_taken(self) -> Option<TxReceipt>
+        ensures { result ≡ receipt_in self }
+    {
+        self.taken.then_some(self.receipt())
     }
 
     // The place that a receipt has taken.
@@ -65,16 +73,16 @@ impl ReceiptPlace {
     pub fn marked(self, mark: Mark) -> ReceiptPlace
         ensures { result ≡ marked_place mark self }
     {
-        self.receipt()
-            .map_or(self, |tx| ReceiptPlace::taken_by(marked(tx, mark)))
+        self.receipt_if_taken()
+            .map_or(self, |tx| ReceiptPlace::taken_by(marked(tx, mark).1))
     }
 
     /// Is the place taken, and may its receipt be marked as acknowledged?
     pub fn is_awaiting(self) -> bool
         ensures { result ≡ self.taken && allowed acknowledged (receipt_of self) }
     {
-        self.receipt()
-            .is_some_and(|tx| tx.allows(Mark::Acknowledged))
+        self.receipt_if_taken()
+            .is_some_and(|tx| marked(tx, Mark::Acknowledged).0.is_ok())
     }
 }
 

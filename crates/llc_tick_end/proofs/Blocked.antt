@@ -1,54 +1,32 @@
--- In the second pass an SSI is blocked exactly where an earlier message has it.
-use Prim.Native.Nat.{ℕ}
-use mathlib.Core.Path.{◌≡◌, ◌∙◌, refl, sym, ap, ap₂}
-use mathlib.Core.Bool.{Bool, true, false, ◌||◌}
-use mathlib.Core.List.{List, ◌++◌}
-use borrow.Author.Tests.{eqb-true}
-use lib.Dec.{eqb}
-use Rattle.std.specs.List.{list_any}
-use Rattle.std.proofs.lemmas.List.Folds.{list_any-append}
-use Rattle.std.proofs.lemmas.Bool.{cond_both}
-use Rattle.lists.specs.Lists.{any, among, Visit}
-use Rattle.lists.proofs.Choices.{by-test, either}
-use Rattle.llc_state.specs.declared.Entry.{Entry}
-use Rattle.llc_steps.specs.TickEnd.{Sending, first_sending}
-use Rattle.llc_tick_end.specs.Passes.{of_ssi}
+-- The SSIs that are blocked, in an array that is filled from its front; they are the newest first, as a walk has them.
+use Prim.Native.Nat.{ℕ, ◌+◌, ◌≤◌, ◌<◌}
+use native.Mathlib.Omega.{arith}
+use mathlib.Core.Path.{◌≡◌, ◌∙◌, refl, ap}
+use mathlib.Core.List.{List, [], ◌∷◌}
+use lib.ListN.{length, set, take, replicate, length-set}
+use Rattle.std.specs.Prelude.{reverse}
+use Rattle.std.proofs.lemmas.List.{take_more_set, reverse-append}
 
--- A visit blocks the message's SSI, or finds it blocked already; and the message stays, with its SSI.
-found : (l : List ℕ) (y x : ℕ) → among y l ≡ true → among x l ≡ eqb y x || among x l
-found l y x h =
-    by-test (eqb y x)
-    (λ t. ap (λ (k : ℕ). among k l) (sym (eqb-true y x t)) ∙ h ∙ ap (λ (b : Bool). b || among x l) (sym t))
-    (λ f. ap (λ (b : Bool). b || among x l) (sym f))
+-- The first k of the array are the blocked ones, at most one for each turn before i.
+pub record Filled (ssis : List ℕ) (k i : ℕ) (blocked : List ℕ) : Type 0 where
+  pub long : length ssis ≡ 64
+  pub low : k ≤ i
+  pub holds : reverse (take k ssis) ≡ blocked
 
-module _ (s : Sending) (e : Entry) (x : ℕ) where
-  blocks-it : among x (first_sending s e).state.blocked ≡ of_ssi x e || among x s.blocked
-  unfolding first_sending any
-  blocks-it =
-      let P : Visit Sending Entry Entry → Type 0 = λ v. among x v.state.blocked ≡ of_ssi x e || among x s.blocked in
-      cond_both e.progress.submitted_to_umac _ _ P (λ t. refl)
-      (λ f. cond_both (among e.sent.ssi s.blocked) _ _ P (found s.blocked e.sent.ssi x) (λ g. refl))
+pub none_yet : Filled (replicate 64 0) 0 0 []
+none_yet = record { long = refl; low = omega arith; holds = refl }
 
-  keeps-it : list_any (of_ssi x) (first_sending s e).stays ≡ of_ssi x e || false
-  unfolding first_sending
-  keeps-it =
-      let P : Visit Sending Entry Entry → Type 0 = λ v. list_any (of_ssi x) v.stays ≡ of_ssi x e || false in
-      either P e.progress.submitted_to_umac refl (either P (among e.sent.ssi s.blocked) refl refl)
+module _ {ssis : List ℕ} {k i : ℕ} {blocked : List ℕ} (f : Filled ssis k i blocked) where
+  -- A turn that blocks none, and one that blocks x.
+  pub as_before : Filled ssis k (i + 1) blocked
+  as_before = record { long = f.long; low = omega (arith, f.low); holds = f.holds }
 
-later : (a b : Bool) → a || (b || false) ≡ b || a
-later true true = refl
-later true false = refl
-later false true = refl
-later false false = refl
-
--- So it goes on with one more message.
-pub one-blocked :
-    (es : List Entry) (s : Sending) (e : Entry)
-    → ((x : ℕ) → list_any (of_ssi x) es ≡ among x s.blocked)
-    → (x : ℕ)
-    → list_any (of_ssi x) (es ++ (first_sending s e).stays) ≡ among x (first_sending s e).state.blocked
-one-blocked es s e h x =
-    list_any-append (of_ssi x) es (first_sending s e).stays
-    ∙ ap₂ (λ (a b : Bool). a || b) (h x) (keeps-it s e x)
-    ∙ later (among x s.blocked) (of_ssi x e)
-    ∙ sym (blocks-it s e x)
+  pub one_more : (x : ℕ) → i < 64 → Filled (set ssis k x) (k + 1) (i + 1) (x ∷ blocked)
+  one_more x h = record {
+    long = length-set ssis k x ∙ f.long;
+    low = omega (arith, f.low);
+    holds =
+        ap reverse (take_more_set ssis k x (omega (arith, h, f.low, f.long)))
+        ∙ reverse-append (take k ssis) (x ∷ [])
+        ∙ ap (λ (l : List ℕ). x ∷ l) f.holds;
+  }

@@ -4,11 +4,11 @@ use native.Mathlib.Omega.{arith}
 use mathlib.Core.Path.{◌≡◌, ◌∙◌, refl, sym, ap, ap₂, subst}
 use mathlib.Core.Bool.{Bool, true, false, cond}
 use mathlib.Core.List.{List, [], ◌∷◌, ◌++◌, append-nil}
-use lib.ListN.{length, get_or, set, take, drop, length-append}
-use lib.Seq.{get_or-take, take-append_seam}
-use Rattle.std.specs.List.{list_any}
+use lib.ListN.{length, get_or, set, take, drop, replicate, length-append}
+use lib.Seq.{get_or-take}
+use Rattle.std.specs.Prelude.{reverse}
 use Rattle.std.proofs.lemmas.Bool.{cond-true, cond-false}
-use Rattle.lists.specs.Lists.{all, any, among, Visit, ◌then◌}
+use Rattle.lists.specs.Lists.{all, among, Visit, ◌then◌}
 use Rattle.lists.specs.Arrays.{laid}
 use Rattle.lists.specs.Writes.{Wrote}
 use Rattle.lists.proofs.Writes.{same_bytes}
@@ -24,8 +24,8 @@ use Rattle.llc_state.specs.declared.Entry.{Entry}
 use Rattle.llc_state.specs.declared.State.{State}
 use Rattle.llc_steps.specs.States.{messages_of, with_messages, put_messages}
 use Rattle.llc_steps.specs.TickEnd.{submitted_entry, stay, Sending, first_sending, first_sendings, after_sendings}
-use Rattle.llc_tick_end.specs.Passes.{sent_bytes_of, of_ssi}
-use Rattle.llc_tick_end.proofs.Blocked.{one-blocked}
+use Rattle.llc_tick_end.specs.Passes.{sent_bytes_of}
+use Rattle.llc_tick_end.proofs.Blocked.{Filled, none_yet, as_before, one_more}
 use Rattle.llc_tick_end.proofs.Entries.{Measures, message-measures}
 use Rattle.llc_tick_end.proofs.InPlace.{next-is, next-left, next-set, laid-over}
 use Rattle.llc_tick_end.proofs.Records.{bytes_of, none-written, one-more, room-left}
@@ -65,8 +65,8 @@ module _ (s : Sending) (e : Entry) where
       cond-false _ (blocks s e) (cond (among e.sent.ssi s.blocked) (stay s e) (sends s e)) f
       ∙ cond-false _ (stay s e) (sends s e) g
 
--- Before turn i: the visits so far, what they left in the state, what was written, and which SSIs are blocked.
-pub record Passing (s : State) (store l : List ℕ) (at₀ : ℕ) (out : List ℕ) (next : State) (at i : ℕ) : Type 0 where
+-- Before turn i: the visits so far, what they left in the state, what was written, and the SSIs that are blocked, the first k.
+pub record Passing (s : State) (store l : List ℕ) (at₀ : ℕ) (out : List ℕ) (next : State) (at : ℕ) (ssis : List ℕ) (k i : ℕ) : Type 0 where
   pub few : s.n_messages ≤ 64
   pub array : length s.outbound_messages ≡ 64
   pub visits : Visit Sending Entry Entry
@@ -74,14 +74,13 @@ pub record Passing (s : State) (store l : List ℕ) (at₀ : ℕ) (out : List �
   pub many : length visits.stays ≡ i
   pub holds : next ≡ with_arrays s (visits.stays ++ drop i s.outbound_messages) visits.state.receipts
   pub wrote : Wrote l at₀ (bytes_of (handed store) visits.out) out at
-  pub blocked : (x : ℕ) → list_any (of_ssi x) visits.stays ≡ among x visits.state.blocked
+  pub blocked : Filled ssis k i visits.state.blocked
 
 pub begins :
     {s : State} {store l : List ℕ} {at : ℕ}
     → s.n_messages ≤ 64
     → length s.outbound_messages ≡ 64
-    → Passing s store l at l s at 0
-unfolding any
+    → Passing s store l at l s at (replicate 64 0) 0 0
 begins {s} {store} {l} {at} h a =
     record {
       few = h;
@@ -91,20 +90,10 @@ begins {s} {store} {l} {at} h a =
       many = refl;
       holds = refl;
       wrote = none-written (handed store) l at;
-      blocked = λ x. refl;
+      blocked = none_yet;
     }
 
--- The same of what equals the state, the output and the place.
-pub at-join :
-    {s : State} {store l : List ℕ} {at₀ : ℕ} {out out₁ : List ℕ} {next next₁ : State} {at at₁ i : ℕ}
-    → next₁ ≡ next
-    → out₁ ≡ out
-    → at₁ ≡ at
-    → Passing s store l at₀ out next at i
-    → Passing s store l at₀ out₁ next₁ at₁ i
-at-join p q r h = rw (p, q, r) h
-
-module _ {s : State} {store l : List ℕ} {at₀ : ℕ} {out : List ℕ} {next : State} {at i : ℕ} (h : Passing s store l at₀ out next at i) where
+module _ {s : State} {store l : List ℕ} {at₀ : ℕ} {out : List ℕ} {next : State} {at : ℕ} {ssis : List ℕ} {k i : ℕ} (h : Passing s store l at₀ out next at ssis k i) where
   module _ (d : Entry) (less : i < s.n_messages) where
     within : i < length s.outbound_messages
     within = omega (arith, less, h.few, h.array)
@@ -136,16 +125,15 @@ module _ {s : State} {store l : List ℕ} {at₀ : ℕ} {out : List ℕ} {next :
         (ap message_in_range as_it_was
         ∙ used-at message_in_range s.n_messages s.outbound_messages i d r less (omega (arith, h.few, h.array)))
 
-    -- The test of the earlier messages.
-    abbrev earlier : Bool
-    earlier = list_any (of_ssi e.sent.ssi) (take i next.outbound_messages)
+    -- The test of the blocked SSIs.
+    abbrev here : Bool
+    here = among e.sent.ssi (reverse (take k ssis))
 
-    is_blocked : earlier ≡ among e.sent.ssi h.visits.state.blocked
-    is_blocked =
-        ap (λ (t : State). list_any (of_ssi e.sent.ssi) (take i t.outbound_messages)) h.holds
-        ∙ ap (λ (k : ℕ). list_any (of_ssi e.sent.ssi) (take k (h.visits.stays ++ drop i s.outbound_messages))) (sym h.many)
-        ∙ ap (list_any (of_ssi e.sent.ssi)) (take-append_seam h.visits.stays (drop i s.outbound_messages))
-        ∙ h.blocked e.sent.ssi
+    is_blocked : among e.sent.ssi h.visits.state.blocked ≡ here
+    is_blocked = ap (among e.sent.ssi) (sym h.blocked.holds)
+
+    few_turns : i < 64
+    few_turns = omega (arith, less, h.few)
 
     -- The state after a visit at which one element stays, and a turn that leaves it.
     abbrev turned : Visit Sending Entry Entry → State
@@ -153,13 +141,14 @@ module _ {s : State} {store l : List ℕ} {at₀ : ℕ} {out : List ℕ} {next :
         with_arrays s ((h.visits.stays ++ w.stays) ++ drop (i + 1) s.outbound_messages) w.state.receipts
 
     goes_on :
-        (w : Visit Sending Entry Entry) {out' : List ℕ} {next' : State} {at' : ℕ}
+        (w : Visit Sending Entry Entry) {out' : List ℕ} {next' : State} {at' : ℕ} {ssis' : List ℕ} {k' : ℕ}
         → first_sending h.visits.state e ≡ w
         → length w.stays ≡ 1
         → next' ≡ turned w
         → Wrote l at₀ (bytes_of (handed store) (h.visits.out ++ w.out)) out' at'
-        → Passing s store l at₀ out' next' at' (i + 1)
-    goes_on w is one kept wr =
+        → Filled ssis' k' (i + 1) w.state.blocked
+        → Passing s store l at₀ out' next' at' ssis' k' (i + 1)
+    goes_on w is one kept wr b =
         record {
           few = h.few;
           array = h.array;
@@ -168,9 +157,7 @@ module _ {s : State} {store l : List ℕ} {at₀ : ℕ} {out : List ℕ} {next :
           many = omega (arith, length-append h.visits.stays w.stays, h.many);
           holds = kept;
           wrote = wr;
-          blocked =
-              subst (λ (v : Visit Sending Entry Entry). (x : ℕ) → list_any (of_ssi x) (h.visits.stays ++ v.stays) ≡ among x v.state.blocked) is
-              (one-blocked h.visits.stays h.visits.state e h.blocked);
+          blocked = b;
         }
 
     -- The message is left as it is, and nothing is written.
@@ -185,16 +172,17 @@ module _ {s : State} {store l : List ℕ} {at₀ : ℕ} {out : List ℕ} {next :
     none-sent = same_bytes (ap (bytes_of (handed store)) (sym (append-nil h.visits.out))) h.wrote
 
     -- A message that is under way, one that waits behind such a one, and one that is handed down.
-    pub is-under-way : e.progress.submitted_to_umac ≡ true → Passing s store l at₀ out next at (i + 1)
-    is-under-way t = goes_on (blocks h.visits.state e) (under-way h.visits.state e t) refl as_is none-sent
+    pub is-under-way : e.progress.submitted_to_umac ≡ true → Passing s store l at₀ out next at (set ssis k e.sent.ssi) (k + 1) (i + 1)
+    is-under-way t =
+        goes_on (blocks h.visits.state e) (under-way h.visits.state e t) refl as_is none-sent (one_more h.blocked e.sent.ssi few_turns)
 
-    pub waits : e.progress.submitted_to_umac ≡ false → earlier ≡ true → Passing s store l at₀ out next at (i + 1)
+    pub waits : e.progress.submitted_to_umac ≡ false → here ≡ true → Passing s store l at₀ out next at ssis k (i + 1)
     waits f t =
-        goes_on (stay h.visits.state e) (waiting h.visits.state e f (sym is_blocked ∙ t)) refl as_is none-sent
+        goes_on (stay h.visits.state e) (waiting h.visits.state e f (is_blocked ∙ t)) refl as_is none-sent (as_before h.blocked)
 
-    module _ (f : e.progress.submitted_to_umac ≡ false) (g : earlier ≡ false) where
+    module _ (f : e.progress.submitted_to_umac ≡ false) (g : here ≡ false) where
       is_free : first_sending h.visits.state e ≡ sends h.visits.state e
-      is_free = free h.visits.state e f (sym is_blocked ∙ g)
+      is_free = free h.visits.state e f (is_blocked ∙ g)
 
       pub room :
           at₀ + length (sent_bytes_of (bits store) (first_sendings s).out) ≤ length l
@@ -209,7 +197,7 @@ module _ {s : State} {store l : List ℕ} {at₀ : ℕ} {out : List ℕ} {next :
           (with_arrays next
           (set next.outbound_messages i (submitted_entry e.progress.retransmit_count e))
           (mark reset e.sent.receipt next.receipts))
-          j (i + 1)
+          j (set ssis k e.sent.ssi) (k + 1) (i + 1)
       unfolding bytes
       is-sent w =
           let x : Entry = submitted_entry e.progress.retransmit_count e in
@@ -220,6 +208,7 @@ module _ {s : State} {store l : List ℕ} {at₀ : ℕ} {out : List ℕ} {next :
           ∙ ap (λ (es : List Entry). with_arrays s es (mark reset e.sent.receipt h.visits.state.receipts))
           (next-set h.visits.stays s.outbound_messages i d h.many within x))
           (one-more (handed store) h.visits.out h.wrote e w)
+          (one_more h.blocked e.sent.ssi few_turns)
 
   -- No message is left.
   module _ (none : s.n_messages ≤ i) where

@@ -1,5 +1,5 @@
 -- What the passes of a tick end write.
-use Rattle.std.specs.Prelude.{ℕ, Bool, List, map, eqb}
+use Rattle.std.specs.Prelude.{ℕ, List, map}
 use Rattle.llc_rule.specs.Records.{all_bytes, acknowledged, unacknowledged}
 use Rattle.llc_rule.specs.Messages.{reply_to}
 use Rattle.llc_state.specs.View.{sent_in, due_in}
@@ -15,7 +15,3 @@ reply_bytes_of ds = all_bytes (map (λ (d : ScheduledOutAck). reply_to (due_in d
 
 unfoldable pub udata_bytes_of : List ℕ → List Entry → List ℕ
 udata_bytes_of store es = all_bytes (map (λ (e : Entry). unacknowledged (sent_in store e)) es)
-
--- Is a message one of this SSI?
-abbrev pub of_ssi : ℕ → Entry → Bool
-of_ssi ssi e = eqb e.sent.ssi ssi

@@ -1,27 +1,26 @@
 // The second pass: the oldest waiting message of each address that has none under way is handed down.
-ghost use Rattle.std.specs.Prelude.{◌+◌, ◌≤◌, ◌≡◌, true, length};
-ghost use Rattle.std.specs.List.{list_any};
-ghost use Rattle.lists.specs.Lists.{all};
+ghost use Rattle.std.specs.Prelude.{◌+◌, ◌≤◌, ◌≡◌, true, length, reverse};
+ghost use Rattle.lists.specs.Lists.{all, among};
 ghost use Rattle.lists.specs.Writes.{Wrote};
 ghost use Rattle.bits.specs.Bits.{bits};
 ghost use Rattle.llc_rule.specs.Limits.{store_bytes};
 ghost use Rattle.llc_state.specs.Ranges.{message_in_range};
 ghost use Rattle.llc_steps.specs.TickEnd.{first_sendings, after_sendings};
 ghost use Rattle.llc_steps.specs.States.{messages_of};
-ghost use Rattle.llc_tick_end.specs.Passes.{sent_bytes_of, of_ssi};
+ghost use Rattle.llc_tick_end.specs.Passes.{sent_bytes_of};
 
 use crate::messages::{put_message, submitted};
-use llc_state::{Entry, State};
+use llc_state::State;
 use tx_receipt::Mark;
 
-// Has one of the messages this SSI?
-fn has_ssi(messages: &[Entry], ssi: u32) -> bool
-    ensures { result ≡ list_any (of_ssi ssi) messages.now }
+// Is an SSI one of these? The newest are asked first.
+fn has_ssi(ssis: &[u32], ssi: u32) -> bool
+    ensures { result ≡ among ssi (reverse ssis.now) }
 {
-    messages.iter().any(|message| message.sent.ssi == ssi)
+    ssis.iter().rev().any(|blocked| *blocked == ssi)
 }
 
-// Goes through the messages: one that waits is handed down unless an earlier one has its SSI.
+// Goes through the messages: one that waits is handed down unless its SSI has one under way.
 pub(crate) fn submit_free_messages_to_umac(
     state: &mut State,
     store: &[u8],
@@ -36,15 +35,24 @@ pub(crate) fn submit_free_messages_to_umac(
     ensures after { state.new ≡ after_sendings state.old }
     ensures wrote { Wrote out.old at (sent_bytes_of (bits store.now) (first_sendings state.old).out) out.new result }
 {
+    // The SSIs that have a message under way.
+    let mut blocked = [0; 64];
+    let mut k = 0;
     for i in 0..state.n_messages {
         let message = state.outbound_messages[i];
-        if !message.progress.submitted_to_umac
-            && !has_ssi(&state.outbound_messages[..i], message.sent.ssi)
-        {
-            at = put_message(out, at, 1, &message, store);
-            state.mark_receipt(message.sent.receipt, Mark::Reset);
-            state.outbound_messages[i] = submitted(message, message.progress.retransmit_count);
+        if message.progress.submitted_to_umac {
+            blocked[k] = message.sent.ssi;
+            k += 1;
+            continue;
         }
+        if has_ssi(&blocked[..k], message.sent.ssi) {
+            continue;
+        }
+        at = put_message(out, at, 1, &message, store);
+        state.mark_receipt(message.sent.receipt, Mark::Reset);
+        state.outbound_messages[i] = submitted(message, message.progress.retransmit_count);
+        blocked[k] = message.sent.ssi;
+        k += 1;
     }
     at
 }

@@ -33,7 +33,8 @@ fn overdue(dltime: TdmaTime, t251: u16, done: TdmaTime) -> bool
 fn is_reported(place: ReceiptPlace) -> bool
     ensures { result ≡ place.taken && reported (receipt_of place) }
 {
-    place.receipt().is_some_and(|receipt| receipt.is_discarded() || receipt.is_transmitted())
+    place.receipt_if_taken().is_some_and(|receipt| receipt.is_discarded()
+        || receipt.is_transmitted())
 }
 
 // The message with its done time, which starts once its receipt is reported.

@@ -25,7 +25,8 @@ pub(crate) struct Run {
 }
 
 impl Run {
-    // A new link, before the first line.
+    // A new link, before the first line. Made where it is kept: called, it would stand on the stack twice.
+    #[inline(always)]
     pub(crate) fn new() -> Run {
         Run {
             state: NEW,

@@ -22,7 +22,8 @@ pub(crate) struct Text {
 }
 
 impl Text {
-    // No answer waits.
+    // No answer waits. Made where it is kept, as `Run` is.
+    #[inline(always)]
     pub(crate) fn new() -> Text {
         Text {
             chars: [0; 2 * ANSWER],

@@ -23,9 +23,10 @@ pub fn lost(receipt: &mut TxReceipt) -> Result<(), Refusal>
     Ok(())
 }
 
-/// Back to Pending from any state.
-pub fn reset(receipt: &mut TxReceipt)
-    ensures { record { number = 0; receipt = receipt.new } ≡ marked reset receipt.old }
+/// Back to Pending from any state; always made.
+pub fn reset(receipt: &mut TxReceipt) -> Result<(), Refusal>
+    ensures { record { number = number (outcome result); receipt = receipt.new } ≡ marked reset receipt.old }
 {
     *receipt = receipt.reset();
+    Ok(())
 }

@@ -23,7 +23,7 @@ returns c =
       c.in_ok-checked.ensures.ok.0,
       length-bits d,
       le-leb (8 * byte_count w) (8 * length d) (omega arith),
-      c.copy_from_slice.ensures.after,
+      c.copy_whole.ensures,
       count,
       read,
       at-front c.args.bytes.now d (w.pos / 8) (byte_count w) (omega (arith, c.in_ok-checked.ensures.ok)),
